@@ -1,0 +1,4 @@
+pub mod Keyword
+pub mod Form
+pub mod Events
+pub mod Laws

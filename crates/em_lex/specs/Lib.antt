@@ -1,0 +1,5 @@
+pub mod Spelling
+pub mod Lexing
+pub mod Answers
+pub mod Marking
+pub mod Laws
