@@ -7,3 +7,4 @@ pub mod SpelledKinds
 pub mod Steps
 pub mod One
 pub mod Walk
+pub mod Places
