@@ -6,7 +6,7 @@ use Rattle.std.proofs.lemmas.Bool.Decides.{nat_tests, Decides-eqb}
 use Rattle.std.proofs.lemmas.List.{take_at, drop_at}
 use Rattle.em_lex.specs.Spelling.{is_trivia, is_digit, is_word_start, is_word_byte, is_word, is_never_raw, is_reserved, is_number, is_spelling, IsLongest}
 use Rattle.em_lex.specs.Scan.{is_mark, starts_word, word_len, starts_raw, raw_len, scanned_len}
-use Rattle.em_lex.proofs.Shapes.{impossible, by_test, and_cases, both, or_left, Form, word, hashed, number, literal, mark, Shape, plain, raw, digits, text, single, hash_front, shape_of, form_of, shape_spelled, word_spelled, number_spelled, hashed_form}
+use Rattle.em_lex.proofs.Shapes.{impossible, by_test, and_cases, both, or_left, Form, word, hashed, number, literal, mark, Shape, plain, raw, digits, quoted, single, hash_front, shape_of, form_of, shape_spelled, word_spelled, number_spelled, hashed_form}
 
 -- no byte of the class at the front
 abbrev pub Stops : (ℕ → Bool) → List ℕ → Type 0
@@ -100,5 +100,5 @@ longest_front w u l = here (shape_of w l.spelling)
     here (raw x e h n) =
         front_raw x e h n (stops_by is_word_byte u (λ b v is k. too_long w u b v l is (subst (λ w. (is_spelling (w ++ b ∷ []) || is_reserved (w ++ b ∷ [])) ≡ true) (sym e) (hashed_form (x ++ b ∷ []) (word_more x b h k)))))
     here (digits h) = front_number h (stops_by is_digit u (λ b v e k. too_long w u b v l e (or_left (is_spelling (w ++ b ∷ [])) _ (number_spelled (w ++ b ∷ []) (number_more w b h k)))))
-    here (text e) = front_literal e
+    here (quoted e) = front_literal e
     here (single b e h) = front_mark b e h

@@ -7,7 +7,7 @@ use Rattle.std.proofs.lemmas.List.{take_at, drop_at, take-append-drop}
 use Rattle.std.proofs.lemmas.Slice.Eq.{starts_is}
 use Rattle.em_lex.specs.Spelling.{is_trivia, is_digit, is_word_start, is_word_byte, is_word, is_never_raw, is_reserved, is_number, is_spelling, IsLongest}
 use Rattle.em_lex.specs.Scan.{is_mark, starts_word, word_len, starts_raw, raw_len, scanned_len}
-use Rattle.em_lex.proofs.Shapes.{impossible, by_test, and_cases, both, or_left, Form, word, hashed, number, literal, mark, Shape, plain, raw, digits, text, single, hash_front, form_of, shape_spelled}
+use Rattle.em_lex.proofs.Shapes.{impossible, by_test, and_cases, both, or_left, Form, word, hashed, number, literal, mark, Shape, plain, raw, digits, quoted, single, hash_front, form_of, shape_spelled}
 use Rattle.em_lex.proofs.Fronts.{Stops, Front, front_word, front_raw, front_number, front_literal, front_mark, run_ends, no_longer, word_bytes, number_bytes}
 
 -- the first byte passes a test
@@ -124,7 +124,7 @@ pub front_shape : (w u : List ℕ) → Front w u → Shape w
 front_shape w u (front_word h s n) = plain h
 front_shape w u (front_raw x e h n s) = raw x e h n
 front_shape w u (front_number h s) = digits h
-front_shape w u (front_literal e) = text e
+front_shape w u (front_literal e) = quoted e
 front_shape w u (front_mark b e h) = single b e h
 
 pub front_longest : (w u : List ℕ) → Front w u → IsLongest (w ++ u) w

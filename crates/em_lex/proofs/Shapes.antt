@@ -87,7 +87,7 @@ pub data Shape (v : List ℕ) : Type 0 where
   plain : is_word v ≡ true → Shape v
   raw : (x : List ℕ) → v ≡ 114 ∷ 35 ∷ x → is_word x ≡ true → is_never_raw x ≡ false → Shape v
   digits : is_number v ≡ true → Shape v
-  text : v ≡ codes "\"{}\"" → Shape v
+  quoted : v ≡ codes "\"{}\"" → Shape v
   single : (b : ℕ) → v ≡ b ∷ [] → is_mark b ≡ true → Shape v
 
 pub hash_front : (v : List ℕ) → starts_with nat_eq v (codes "r#") ≡ true → v ≡ 114 ∷ 35 ∷ drop 2 v
@@ -115,7 +115,7 @@ shape_of v h = elim (or_cases (is_word v) _ h) [
     | inr h ↦ elim (or_cases (is_number v) _ h) [
       | inl a ↦ digits a
       | inr h ↦ elim (or_cases (is_literal v) _ h) [
-        | inl a ↦ text ((bytes_eq-Decides v (codes "\"{}\"")).0 a)
+        | inl a ↦ quoted ((bytes_eq-Decides v (codes "\"{}\"")).0 a)
         | inr h ↦ elim (or_cases (list_any (bytes_eq v) opening) _ h) [
           | inl a ↦ any_of Shape v opening (single 40 refl refl, (single 123 refl refl, tt)) a
           | inr h ↦ elim (or_cases (list_any (bytes_eq v) closing) _ h) [
@@ -132,7 +132,7 @@ shape_form : (v : List ℕ) → Shape v → Form v
 shape_form v (plain h) = word h
 shape_form v (raw x e h n) = hashed x e h
 shape_form v (digits h) = number h
-shape_form v (text h) = literal h
+shape_form v (quoted h) = literal h
 shape_form v (single b e h) = mark b e h
 
 pub form_of : (v : List ℕ) → (is_spelling v || is_reserved v) ≡ true → Form v
@@ -157,7 +157,7 @@ pub shape_spelled : (v : List ℕ) → Shape v → is_spelling v ≡ true
 shape_spelled v (plain h) = word_spelled v h
 shape_spelled v (raw x e h n) = subst (λ v. is_spelling v ≡ true) (sym e) (raw_spelled x h n)
 shape_spelled v (digits h) = number_spelled v h
-shape_spelled v (text e) = subst (λ v. is_spelling v ≡ true) (sym e) refl
+shape_spelled v (quoted e) = subst (λ v. is_spelling v ≡ true) (sym e) refl
 shape_spelled v (single b e h) = subst (λ v. is_spelling v ≡ true) (sym e) (each_mark (λ b. is_spelling (b ∷ []) ≡ true) b (refl, (refl, (refl, (refl, (refl, (refl, (refl, (refl, tt)))))))) h)
 
 -- `r#` and any word is a spelling or reserved

@@ -10,7 +10,7 @@ use Rattle.em_base.specs.declared.token.Token.{Token}
 use Rattle.em_lex.specs.Spelling.{is_trivia, is_digit, is_word_start, is_spelling, is_reserved, IsLongest}
 use Rattle.em_lex.specs.Scan.{is_mark, scanned_len}
 use Rattle.em_lex.specs.Lexing.{Lexes, Begins, token_at}
-use Rattle.em_lex.proofs.Shapes.{impossible, and_cases, both, or_left, Shape, plain, raw, digits, text, single, shape_of}
+use Rattle.em_lex.proofs.Shapes.{impossible, and_cases, both, or_left, Shape, plain, raw, digits, quoted, single, shape_of}
 use Rattle.em_lex.proofs.Longest.{starts, word_starts, number_starts, not_both}
 use Rattle.em_lex.proofs.Found.{longest_scanned}
 
@@ -38,7 +38,7 @@ shape_first : (w : List ℕ) → Shape w → First w
 shape_first w (plain h) = first_of is_word_start trivia_word w (word_starts w h)
 shape_first w (raw x e h n) = record { byte = 114; rest = 35 ∷ x; parts = e; solid = refl }
 shape_first w (digits h) = first_of is_digit trivia_digit w (number_starts w h)
-shape_first w (text e) = record { byte = 34; rest = 123 ∷ 125 ∷ 34 ∷ []; parts = e; solid = refl }
+shape_first w (quoted e) = record { byte = 34; rest = 123 ∷ 125 ∷ 34 ∷ []; parts = e; solid = refl }
 shape_first w (single b e h) = record { byte = b; rest = []; parts = e; solid = not_both _ (λ k. trivia_mark b h k) }
 
 -- a spelling begins with no trivia
