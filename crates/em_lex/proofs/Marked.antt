@@ -9,13 +9,13 @@ use Rattle.em_base.specs.declared.token.Token.{Token}
 use Rattle.em_base.specs.declared.token.TokenKind.{TokenKind}
 use Rattle.em_base.specs.declared.token.TokenKind.TheVariants.{Ident}
 use Rattle.em_lex.specs.Spelling.{is_trivia, is_digit, is_word_start, is_word_byte, is_word, is_number, is_never_raw, is_spelling, IsLongest}
-use Rattle.em_lex.specs.Scan.{is_mark, starts_raw, starts_word}
+use Rattle.em_lex.specs.Scan.{is_mark, is_quote, is_equals, starts, starts_raw}
 use Rattle.em_lex.specs.Lexing.{Lexes, Begins, kind_of, token_at}
 use Rattle.em_lex.specs.Marking.{respelled, growth, moved_token, moved, marked, HasRawForm}
 use Rattle.em_lex.specs.Laws.{MarkedLexes}
 use Rattle.em_lex.proofs.Shapes.{impossible, by_test, and_cases, or_left, not_true, Shape, plain, raw, digits, quoted, single, hash_front, shape_of}
 use Rattle.em_lex.proofs.Fronts.{Stops, Front, front_word, front_raw, front_number, front_literal, front_mark, longest_front}
-use Rattle.em_lex.proofs.Longest.{starts, word_starts, number_starts, starts_more, word_digit, word_mark, not_both, front_longest}
+use Rattle.em_lex.proofs.Longest.{word_starts, number_starts, starts_more, word_digit, word_mark, not_both, front_longest}
 use Rattle.em_lex.proofs.SpelledKinds.{raw_kind}
 use Rattle.em_lex.proofs.Steps.{First}
 
@@ -25,12 +25,14 @@ is_hash b = nat_eq 35 b
 -- no spelling that ends before the one text goes on in the other
 pub record Ends (u v : List ℕ) : Type 0 where
   pub word : Stops is_word_byte u → Stops is_word_byte v
-  pub digit : Stops is_digit u → Stops is_digit v
+  pub start : Stops is_word_start u → Stops is_word_start v
+  pub quote : Stops is_quote u → Stops is_quote v
+  pub equals : Stops is_equals u → Stops is_equals v
   pub hash : starts is_hash v ≡ false
 
 -- `r#` does not begin in a word before such a text
 word_not_raw : (w v : List ℕ) → is_word w ≡ true → starts is_hash v ≡ false → starts_raw (w ++ v) ≡ false
-word_not_raw w v h s = not_both _ (λ r. here w (hash_front (w ++ v) (and_cases (starts_with nat_eq (w ++ v) (codes "r#")) (starts_word (drop 2 (w ++ v))) r).0) h)
+word_not_raw w v h s = not_both _ (λ r. here w (hash_front (w ++ v) (and_cases (starts_with nat_eq (w ++ v) (codes "r#")) (starts is_word_start (drop 2 (w ++ v))) r).0) h)
   where
     behind : (t : List ℕ) → v ≡ 35 ∷ t → ⊥
     behind t e = impossible (sym s ∙ ap (starts is_hash) e)
@@ -46,20 +48,20 @@ word_not_raw w v h s = not_both _ (λ r. here w (hash_front (w ++ v) (and_cases 
 
 -- a longest spelling stays so where what follows is replaced
 kept : (w u v : List ℕ) → Front w u → Ends u v → Front w v
-kept w u v (front_word h s n) e = front_word h (e.word s) (word_not_raw w v h e.hash)
+kept w u v (front_word h s q n) e = front_word h (e.word s) (e.quote q) (word_not_raw w v h e.hash)
 kept w u v (front_raw x is h n s) e = front_raw x is h n (e.word s)
-kept w u v (front_number h s) e = front_number h (e.digit s)
-kept w u v (front_literal is) e = front_literal is
-kept w u v (front_mark b is h) e = front_mark b is h
+kept w u v (front_number h s) e = front_number h (e.word s)
+kept w u v (front_literal is s) e = front_literal is (e.start s)
+kept w u v (front_mark b is h d) e = front_mark b is h (λ c. e.equals (d c))
 
 -- a word is no spelling of another kind
 word_stops : (w u : List ℕ) → is_word w ≡ true → Front w u → Stops is_word_byte u
-word_stops w u h (front_word k s n) = s
+word_stops w u h (front_word k s q n) = s
 word_stops w u h (front_raw x is k n s) = s
 word_stops [] u h (front_number k s) = impossible h
 word_stops (b ∷ w) u h (front_number k s) = absurd (word_digit b (word_starts (b ∷ w) h) (number_starts (b ∷ w) k))
-word_stops w u h (front_literal is) = impossible (subst (λ w. is_word w ≡ true) is h)
-word_stops w u h (front_mark b is m) = absurd (word_mark b (word_starts (b ∷ []) (subst (λ w. is_word w ≡ true) is h)) m)
+word_stops w u h (front_literal is s) = impossible (subst (λ w. is_word w ≡ true) is h)
+word_stops w u h (front_mark b is m d) = absurd (word_mark b (word_starts (b ∷ []) (subst (λ w. is_word w ≡ true) is h)) m)
 
 -- a word becomes a raw word
 made_raw : (w u v : List ℕ) → is_word w ≡ true → is_never_raw w ≡ false → Front w u → Ends u v → Front (114 ∷ 35 ∷ w) v
@@ -81,7 +83,7 @@ spelled_longest c w u v a l e = front_longest (spelled c w) v (spelled_front c w
 
 -- both texts go on with the same byte
 same_head : (b : ℕ) (x y : List ℕ) → nat_eq 35 b ≡ false → Ends (b ∷ x) (b ∷ y)
-same_head b x y h = record { word = zeros (is_word_byte b) _ _; digit = zeros (is_digit b) _ _; hash = h }
+same_head b x y h = record { word = zeros (is_word_byte b) _ _; start = zeros (is_word_start b) _ _; quote = zeros (is_quote b) _ _; equals = zeros (is_equals b) _ _; hash = h }
   where
     zeros : (c : Bool) (m n : ℕ) → cond c (1 + m) 0 ≡ 0 → cond c (1 + n) 0 ≡ 0
     zeros true m n e = absurd (let z : ⊥ = omega (arith, e) in z)
@@ -118,16 +120,22 @@ shape_head w (quoted e) = record { byte = 34; rest = 123 ∷ 125 ∷ 34 ∷ []; 
 shape_head w (single b e h) = record { byte = b; rest = []; parts = e; no_hash = mark_no_hash b h }
 
 -- a word does not end before a word
-word_goes_on : (w u : List ℕ) → is_word w ≡ true → Stops is_word_byte (w ++ u) → ⊥
-word_goes_on [] u h s = impossible h
-word_goes_on (b ∷ w) u h s = some (is_word_byte b) _ (or_left (is_word_start b) (is_digit b) (word_starts (b ∷ w) h)) s
+word_goes_on : (p : ℕ → Bool) → ((b : ℕ) → is_word_start b ≡ true → p b ≡ true) → (w u : List ℕ) → is_word w ≡ true → Stops p (w ++ u) → ⊥
+word_goes_on p f [] u h s = impossible h
+word_goes_on p f (b ∷ w) u h s = some (p b) _ (f b (word_starts (b ∷ w) h)) s
   where
     some : (c : Bool) (n : ℕ) → c ≡ true → cond c (1 + n) 0 ≡ 0 → ⊥
     some true n h e = omega (arith, e)
     some false n h e = impossible h
 
 ends_word : (c : Bool) (w u v : List ℕ) → MayBeRaw c w → is_spelling w ≡ true → Ends (w ++ u) (spelled c w ++ v)
-ends_word true w u v a h = record { word = λ s. absurd (word_goes_on w u (and_cases (is_word w) _ (a refl)).0 s); digit = λ s. refl; hash = refl }
+ends_word true w u v a h = record {
+  word = λ s. absurd (word_goes_on is_word_byte (λ b h. or_left (is_word_start b) (is_digit b) h) w u (and_cases (is_word w) _ (a refl)).0 s);
+  start = λ s. absurd (word_goes_on is_word_start (λ b h. h) w u (and_cases (is_word w) _ (a refl)).0 s);
+  quote = λ s. refl;
+  equals = λ s. refl;
+  hash = refl;
+}
 ends_word false w u v a h =
     let f = shape_head w (shape_of w h) in
     subst (λ w. Ends (w ++ u) (w ++ v)) (sym f.parts) (same_head f.byte (f.rest ++ u) (f.rest ++ v) f.no_hash)
@@ -137,7 +145,7 @@ ends_gap c [] w u v a h g = ends_word c w u v a h
 ends_gap c (b ∷ gap) w u v a h g = same_head b _ _ (trivia_no_hash b (and_cases (is_trivia b) _ g).0)
 
 ends_trivia : (u : List ℕ) → list_all is_trivia u ≡ true → Ends u u
-ends_trivia [] h = record { word = λ s. s; digit = λ s. s; hash = refl }
+ends_trivia [] h = record { word = λ s. s; start = λ s. s; quote = λ s. s; equals = λ s. s; hash = refl }
 ends_trivia (b ∷ u) h = same_head b u u (trivia_no_hash b (and_cases (is_trivia b) _ h).0)
 
 -- the marked text, cut at its first token
