@@ -1,14 +1,13 @@
 -- The kind of a spelling, by its first byte.
-use Rattle.std.proofs.Common.{◌≡◌, ℕ, Bool, true, false, cond, ◌&&◌, ◌||◌, not, List, [], ◌∷◌, drop, codes, refl, subst, sym, ap, ◌∙◌}
+use Rattle.std.proofs.Common.{◌≡◌, ℕ, Bool, true, false, cond, ◌&&◌, not, List, [], ◌∷◌, drop, codes, refl, subst, sym, ◌∙◌}
 use Rattle.std.specs.Prelude.{nat_eq}
-use Rattle.std.specs.List.{starts_with, list_any}
-use Rattle.std.specs.Str.{bytes_eq}
+use Rattle.std.specs.List.{starts_with}
 use Rattle.em_base.specs.declared.token.TokenKind.{TokenKind}
 use Rattle.em_base.specs.declared.token.TokenKind.TheVariants.{Ident, Int}
 use Rattle.em_lex.specs.Spelling.{is_digit, is_word_start, is_word, is_raw_word, is_never_raw, is_number, is_spelling}
 use Rattle.em_lex.specs.Lexing.{kind_of}
-use Rattle.em_lex.specs.Scan.{scanned_kind, identifier_of}
-use Rattle.em_lex.proofs.Shapes.{impossible, and_cases, Shape, plain, raw, digits, quoted, single, hash_front, shape_of, raw_is, each_mark}
+use Rattle.em_lex.specs.Scan.{scanned_kind}
+use Rattle.em_lex.proofs.Shapes.{impossible, Shape, plain, raw, digits, quoted, single, hash_front, shape_of, raw_is, each_mark}
 use Rattle.em_lex.proofs.Longest.{word_starts, number_starts, word_digit, not_both}
 
 kind_true : (c : Bool) (m n k : TokenKind) → c ≡ true → m ≡ k → cond c m n ≡ k

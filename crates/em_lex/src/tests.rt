@@ -34,9 +34,18 @@ fn texts_have_these_tokens(rt: HostRuntime) -> Result<(), Fail> {
     assert_eq!(rt; count.count(), 0);
     for (text, want) in [
         (" \n", ""),
-        ("r#crates{}r", "raw crates 0..8\nopen { 8..9\nclose } 9..10\nword r 10..11\n"),
-        ("let r#try = 07;\n", "word let 0..3\nraw try 4..9\npunct = 10..11\nint 07 12..14\npunct ; 14..15\n"),
-        ("_x!(\"{}\",a1)", "word _x 0..2\npunct ! 2..3\nopen ( 3..4\nstr \"{}\" 4..8\npunct , 8..9\nword a1 9..11\nclose ) 11..12\n"),
+        (
+            "r#crates{}r",
+            "raw crates 0..8\nopen { 8..9\nclose } 9..10\nword r 10..11\n",
+        ),
+        (
+            "let r#try = 07;\n",
+            "word let 0..3\nraw try 4..9\npunct = 10..11\nint 07 12..14\npunct ; 14..15\n",
+        ),
+        (
+            "_x!(\"{}\",a1)",
+            "word _x 0..2\npunct ! 2..3\nopen ( 3..4\nstr \"{}\" 4..8\npunct , 8..9\nword a1 9..11\nclose ) 11..12\n",
+        ),
     ] {
         assert!(rt; text.len() < 100);
         let tokens = lex(alloc, 3, Edition::E2018, text.as_bytes(), &mut count)?;
@@ -60,8 +69,21 @@ fn texts_without_tokens_are_refused(rt: HostRuntime) {
         kind: LexKind::Unbuilt,
     };
     for text in [
-        "\"a\"", "\"{}", "r#", "r#_", "a r#crate", "-", "\t", "é", "a #", "1a", "1_0", "\"{}\"a",
-        "b\"{}\"", "==", "!=",
+        "\"a\"",
+        "\"{}",
+        "r#",
+        "r#_",
+        "a r#crate",
+        "-",
+        "\t",
+        "é",
+        "a #",
+        "1a",
+        "1_0",
+        "\"{}\"a",
+        "b\"{}\"",
+        "==",
+        "!=",
     ] {
         assert!(rt; text.len() < 100);
         let refused = lex(alloc, 0, Edition::E2015, text.as_bytes(), &mut count);
