@@ -1,5 +1,6 @@
 ghost use Rattle.std.specs.Prelude.{◌≡◌, None, ◌≤◌, ◌<◌, ◌+◌, ◌⊎◌, length, take, OnOk, IfOk, IfSome};
 ghost use Rattle.std.specs.Io.KnownBytes.{Keeps, prepend_known, IsAtEnd};
+ghost use Rattle.em_disk.specs.Causes.{raised};
 
 use crate::traits::{Failed, Files, ReadError};
 use em_base::Bytes;
@@ -80,6 +81,15 @@ impl<R: HostFiles + AllocGlobal> FolderFiles<R> {
     pub fn new(host: R) -> FolderFiles<R> {
         FolderFiles { host, faults: 0 }
     }
+
+    /// Counts a fault.
+    fn fail(&mut self) -> Failed
+        ensures risen { self.new ≡ record self.old { faults = raised self.old.faults } }
+        ensures later { self.old.faults ≤ self.new.faults }
+    {
+        self.faults = self.faults.saturating_add(1);
+        Failed
+    }
 }
 
 impl<R: HostFiles + AllocGlobal> Files for FolderFiles<R> {
@@ -105,7 +115,7 @@ impl<R: HostFiles + AllocGlobal> Files for FolderFiles<R> {
                 ErrorKind::NotFound => Err(ReadError::Absent),
                 ErrorKind::OutOfMemory => Err(ReadError::NoMemory),
                 _ => {
-                    self.faults = self.faults.saturating_add(1);
+                    self.fail();
                     Err(ReadError::Failed)
                 }
             },
@@ -116,10 +126,7 @@ impl<R: HostFiles + AllocGlobal> Files for FolderFiles<R> {
     fn put(&mut self, name: &str, bytes: &[u8]) -> Result<(), Failed> {
         match write_whole(&self.host, name, bytes) {
             Ok(()) => Ok(()),
-            Err(_) => {
-                self.faults = self.faults.saturating_add(1);
-                Err(Failed)
-            }
+            Err(_) => Err(self.fail()),
         }
     }
 
@@ -127,13 +134,10 @@ impl<R: HostFiles + AllocGlobal> Files for FolderFiles<R> {
     fn remove(&mut self, name: &str) -> Result<(), Failed> {
         match fs::remove_file(&self.host, name) {
             Ok(()) => Ok(()),
-            Err(error) => {
-                if error.kind() == ErrorKind::NotFound {
-                    return Ok(());
-                }
-                self.faults = self.faults.saturating_add(1);
-                Err(Failed)
-            }
+            Err(error) => match error.kind() {
+                ErrorKind::NotFound => Ok(()),
+                _ => Err(self.fail()),
+            },
         }
     }
 }

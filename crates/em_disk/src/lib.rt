@@ -7,6 +7,8 @@ mod folder_files;
 mod memory_files;
 mod memory_sink;
 mod stdout_sink;
+#[cfg(test)]
+mod tests;
 mod traits;
 
 pub use changes::{Change, PutFailed, put_changes};

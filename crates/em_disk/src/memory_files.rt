@@ -1,4 +1,4 @@
-ghost use Rattle.std.specs.Prelude.{◌≡◌, ◌↔◌, Some, IfOk, OnOk, OnErr, IsErr, MatchResult, Contains, ◌∷◌, filter, not};
+ghost use Rattle.std.specs.Prelude.{◌≡◌, ◌≤◌, ◌↔◌, length, Some, IfOk, OnOk, OnErr, IsErr, MatchResult, Contains, ◌∷◌, filter, not};
 ghost use Rattle.std.specs.Option.{option_copied};
 ghost use Rattle.std.specs.FinMap as map;
 ghost use Rattle.std.specs.Ordering.{nat_cmp};
@@ -97,6 +97,7 @@ impl Files for MemoryFiles {
     /// A read fails exactly where its number is listed.
     fn read(&mut self, alloc: Global, name: &str, most: usize) -> Result<Bytes, ReadError>
         ensures kept { Some (held_of self.new) ≡ Some (held_of self.old) }
+        ensures short { IfOk result (λ bytes. length bytes ≤ most) }
         ensures answer { ReadAnswers (map.get (held_of self.old) name.now) most result }
         ensures cause { ReadHasCause (faults_of self.old) (faults_of self.new) result }
 
