@@ -1,5 +1,5 @@
 -- What is held after one more change.
-use Rattle.std.proofs.Common.{◌≡◌, ℕ, suc, ◌+◌, ◌<◌, List, [], ◌∷◌, ◌++◌, length, get_or, take, refl, ap, sym, ◌∙◌, Option}
+use Rattle.std.proofs.Common.{◌≡◌, ℕ, ◌+◌, ◌<◌, List, [], ◌∷◌, ◌++◌, length, get_or, take, refl, ap, sym, ◌∙◌, Option}
 use Rattle.std.proofs.lemmas.List.{take_more}
 use Rattle.em_disk.specs.Held.{Held, with_file}
 use Rattle.em_disk.specs.Changes.{after}

@@ -3,3 +3,4 @@ pub mod Held
 pub mod Answers
 pub mod Memory
 pub mod Changes
+pub mod Adapters

@@ -1,6 +1,8 @@
-ghost use Rattle.std.specs.Prelude.{◌≡◌, None, ◌≤◌, ◌<◌, ◌+◌, ◌⊎◌, length, take, OnOk, IfOk, IfSome};
+ghost use Rattle.std.specs.Prelude.{◌≡◌, None, ◌≤◌, ◌<◌, ◌+◌, ◌^◌, ◌⊎◌, length, take, OnOk, MatchResult, IfOk, IfSome};
 ghost use Rattle.std.specs.Io.KnownBytes.{Keeps, prepend_known, IsAtEnd};
-ghost use Rattle.em_disk.specs.Causes.{raised};
+ghost use Rattle.em_disk.specs.Adapters.{folder_faults};
+ghost use Rattle.em_disk.specs.Causes.{raised, HasCause};
+ghost use Rattle.em_disk.specs.Answers.{ReadHasCause, faults_after};
 
 use crate::traits::{Failed, Files, ReadError};
 use em_base::Bytes;
@@ -78,7 +80,9 @@ fn write_whole<R: HostFiles + AllocGlobal>(host: &R, name: &str, bytes: &[u8]) -
 
 impl<R: HostFiles + AllocGlobal> FolderFiles<R> {
     /// Makes no call on the outside.
-    pub fn new(host: R) -> FolderFiles<R> {
+    pub fn new(host: R) -> FolderFiles<R>
+        ensures { folder_faults result ≡ 0 }
+    {
         FolderFiles { host, faults: 0 }
     }
 
@@ -95,10 +99,15 @@ impl<R: HostFiles + AllocGlobal> FolderFiles<R> {
 impl<R: HostFiles + AllocGlobal> Files for FolderFiles<R> {
     ghost held = { λ _. None };
 
-    ghost faults = { λ f. f.faults };
+    ghost faults = { folder_faults };
 
     /// Reads no more than `most + 1` bytes. A file that is not found is absent, and want of memory is no fault.
-    fn read(&mut self, alloc: Global, name: &str, most: usize) -> Result<Bytes, ReadError> {
+    fn read(&mut self, alloc: Global, name: &str, most: usize) -> Result<Bytes, ReadError>
+        requires { most < 2 ^ 32 }
+        ensures short { IfOk result (λ bytes. length bytes ≤ most) }
+        ensures cause { ReadHasCause (folder_faults self.old) (folder_faults self.new) result }
+        ensures counted { folder_faults self.new ≡ faults_after (folder_faults self.old) result }
+    {
         let bytes = match fs::open(&self.host, name) {
             Ok(mut file) => front_of(alloc, &mut file, most + 1),
             Err(error) => Err(error),
@@ -123,7 +132,10 @@ impl<R: HostFiles + AllocGlobal> Files for FolderFiles<R> {
     }
 
     /// Want of memory is a fault here, and so is a folder that is missing.
-    fn put(&mut self, name: &str, bytes: &[u8]) -> Result<(), Failed> {
+    fn put(&mut self, name: &str, bytes: &[u8]) -> Result<(), Failed>
+        ensures cause { HasCause (folder_faults self.old) (folder_faults self.new) result }
+        ensures counted { MatchResult result (λ _. folder_faults self.new ≡ folder_faults self.old) (λ _. folder_faults self.new ≡ raised (folder_faults self.old)) }
+    {
         match write_whole(&self.host, name, bytes) {
             Ok(()) => Ok(()),
             Err(_) => Err(self.fail()),
@@ -131,7 +143,10 @@ impl<R: HostFiles + AllocGlobal> Files for FolderFiles<R> {
     }
 
     /// A file that is not found is as good as removed.
-    fn remove(&mut self, name: &str) -> Result<(), Failed> {
+    fn remove(&mut self, name: &str) -> Result<(), Failed>
+        ensures cause { HasCause (folder_faults self.old) (folder_faults self.new) result }
+        ensures counted { MatchResult result (λ _. folder_faults self.new ≡ folder_faults self.old) (λ _. folder_faults self.new ≡ raised (folder_faults self.old)) }
+    {
         match fs::remove_file(&self.host, name) {
             Ok(()) => Ok(()),
             Err(error) => match error.kind() {

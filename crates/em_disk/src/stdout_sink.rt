@@ -1,5 +1,7 @@
-ghost use Rattle.std.specs.Prelude.{◌≡◌, ℕ, None, take, OnOk, OnErr};
+ghost use Rattle.std.specs.Prelude.{◌≡◌, ℕ, None, take, OnOk, OnErr, MatchResult};
 ghost use Rattle.std.specs.Io.KnownBytes.{Appends};
+ghost use Rattle.em_disk.specs.Adapters.{stdout_faults};
+ghost use Rattle.em_disk.specs.Causes.{raised, HasCause};
 
 use crate::traits::{Failed, Sink};
 use em_base::rest_from;
@@ -31,7 +33,9 @@ fn write_through<W: Write>(writer: &mut W, bytes: &[u8]) -> Result<(), Failed>
 
 impl<P: Print> StdoutSink<P> {
     /// Makes no call on the outside.
-    pub fn new(host: P) -> StdoutSink<P> {
+    pub fn new(host: P) -> StdoutSink<P>
+        ensures { stdout_faults result ≡ 0 }
+    {
         StdoutSink { host, faults: 0 }
     }
 }
@@ -39,9 +43,12 @@ impl<P: Print> StdoutSink<P> {
 impl<P: Print> Sink for StdoutSink<P> {
     ghost written = { λ _. None };
 
-    ghost faults = { λ s. s.faults };
+    ghost faults = { stdout_faults };
 
-    fn write(&mut self, bytes: &[u8]) -> Result<(), Failed> {
+    fn write(&mut self, bytes: &[u8]) -> Result<(), Failed>
+        ensures cause { HasCause (stdout_faults self.old) (stdout_faults self.new) result }
+        ensures counted { MatchResult result (λ _. stdout_faults self.new ≡ stdout_faults self.old) (λ _. stdout_faults self.new ≡ raised (stdout_faults self.old)) }
+    {
         match write_through(&mut io::writer(&self.host), bytes) {
             Ok(()) => Ok(()),
             Err(Failed) => {

@@ -1,4 +1,4 @@
-use Rattle.std.proofs.Common.{◌≡◌, ◌≤◌, take, drop}
+use Rattle.std.proofs.Common.{◌≡◌, ◌≤◌, take}
 use Rattle.em_disk.specs.Changes.{after}
 use Rattle.em_disk.proofs.changes.put_changes.Given as goal
 
