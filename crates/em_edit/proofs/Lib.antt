@@ -1,1 +1,3 @@
 pub mod FirstParts
+pub mod Sorting
+pub mod Splicing
