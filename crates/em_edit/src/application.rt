@@ -49,14 +49,15 @@ pub fn apply(
     ensures { IfOk result (λ new. new ≡ edited_from 0 taken.now sources.now) }
 {
     let ordered = ordered_parts(alloc, taken.as_slice())?;
-    let mut rest = ordered.as_slice();
+    let parts = ordered.as_slice();
     let mut new = List::new(alloc);
+    let mut at = 0;
     let mut file = 0;
     for source in sources.as_slice() {
-        let (here, behind) = rest.split_at(count_in(file, rest));
-        let text = spliced(alloc, source.as_slice(), here)?;
+        let end = at + count_in(file, rest_from(parts, at));
+        let text = spliced(alloc, source.as_slice(), between(parts, at, end))?;
         new.push(text)?;
-        rest = behind;
+        at = end;
         file += 1;
     }
     Ok(new)

@@ -1,4 +1,4 @@
-use Rattle.std.proofs.Common.{◌≡◌, ◌∙◌, ap, arith, length}
+use Rattle.std.proofs.Common.{arith, length}
 use Rattle.em_edit.proofs.Splicing.{next_part, next_made, last_made}
 use Rattle.em_edit.proofs.application.spliced.Goals as goal
 
