@@ -1,2 +1,4 @@
 //! Programs of the first form: their statements, what they print, and what the edition 2018 finds in them.
 #![tactic(auto)]
+
+mod words;
