@@ -1,7 +1,7 @@
--- What a reader of the form finds at the front of spellings.
-use Rattle.std.specs.Prelude.{◌≡◌, ◌≤◌, ◌<◌, ℕ, Bool, true, false, ◌&&◌, nat_le, nat_lt, List, [], ◌∷◌, length, codes, if◌then◌else◌, Option, Some, None}
-use Rattle.std.specs.List.{list_all, list_any}
-use Rattle.std.specs.Option.{option_map}
+-- What stands at the front of spellings, as a reader of the form finds it.
+use Rattle.std.specs.Prelude.{◌≤◌, ℕ, Bool, true, false, ◌&&◌, ◌==◌, nat_le, nat_lt, List, [], ◌∷◌, length, codes, if◌then◌else◌, Option, Some, None, option_and_then}
+use Rattle.std.specs.List.{list_all}
+use Rattle.std.specs.Option.{option_map, option_map_or}
 use Rattle.std.specs.Str.{bytes_eq}
 use Rattle.em_base.specs.declared.edition.Edition.TheVariants.{E2015}
 use Rattle.em_lex.specs.Spelling.{is_digit}
@@ -13,7 +13,7 @@ behind [] ws = Some ws
 behind (v ∷ vs) [] = None
 behind (v ∷ vs) (w ∷ ws) = if bytes_eq w v then behind vs ws else None
 
--- a name of 2015 and what stands behind it
+-- a name of 2015, and what stands behind it
 abbrev pub name_first : List (List ℕ) → Option (List ℕ × List (List ℕ))
 name_first [] = None
 name_first (w ∷ ws) = if is_name E2015 w then Some (name_of w, ws) else None
@@ -27,22 +27,23 @@ abbrev pub behind_int : List (List ℕ) → Option (List (List ℕ))
 behind_int [] = None
 behind_int (w ∷ ws) = if is_int w then Some ws else None
 
-abbrev pub let_end : List ℕ → Option (List (List ℕ)) → Option (List ℕ × List (List ℕ))
-let_end name None = None
-let_end name (Some ws) = option_map (λ (rest : List (List ℕ)). (name, rest)) (behind (codes ";" ∷ []) ws)
-
-abbrev pub let_int : List ℕ → Option (List (List ℕ)) → Option (List ℕ × List (List ℕ))
-let_int name None = None
-let_int name (Some ws) = let_end name (behind_int ws)
-
-abbrev pub let_equals : Option (List ℕ × List (List ℕ)) → Option (List ℕ × List (List ℕ))
-let_equals None = None
-let_equals (Some p) = let_int p.0 (behind (codes "=" ∷ []) p.1)
-
-abbrev pub let_name : Option (List (List ℕ)) → Option (List ℕ × List (List ℕ))
-let_name None = None
-let_name (Some ws) = let_equals (name_first ws)
-
 -- the name that a `let` binds, and what stands behind it
 abbrev pub let_first : List (List ℕ) → Option (List ℕ × List (List ℕ))
-let_first ws = let_name (behind (codes "let" ∷ []) ws)
+let_first ws =
+    option_and_then (λ (a : List (List ℕ)). option_and_then (λ (n : List ℕ × List (List ℕ)). option_and_then (λ (b : List (List ℕ)). option_and_then (λ (c : List (List ℕ)).
+    option_map (λ (d : List (List ℕ)). (n.0, d)) (behind (codes ";" ∷ []) c)) (behind_int b)) (behind (codes "=" ∷ []) n.1)) (name_first a)) (behind (codes "let" ∷ []) ws)
+
+-- the name whose value a `println!` prints, and what stands behind it
+abbrev pub print_first : List (List ℕ) → Option (List ℕ × List (List ℕ))
+print_first ws =
+    option_and_then (λ (a : List (List ℕ)). option_and_then (λ (n : List ℕ × List (List ℕ)).
+    option_map (λ (d : List (List ℕ)). (n.0, d)) (behind (codes ")" ∷ codes ";" ∷ []) n.1)) (name_first a))
+    (behind (codes "println" ∷ codes "!" ∷ codes "(" ∷ codes "\"{}\"" ∷ codes "," ∷ []) ws)
+
+-- only a `}` stands here
+abbrev pub is_end : List (List ℕ) → Bool
+is_end ws = option_map_or (λ (rest : List (List ℕ)). length rest == 0) (behind (codes "}" ∷ []) ws) false
+
+-- behind `let`s of these names the spellings are some statements and a `}`
+abbrev pub Reads : List (List ℕ) → List (List ℕ) → Type 0
+Reads names ws = (core : List Statement) × Body E2015 names ws core
