@@ -1,2 +1,5 @@
 pub mod Spelled
 pub mod Behind
+pub mod One
+pub mod Reading
+pub mod Walk
