@@ -148,13 +148,3 @@ print_shorter ts after name h =
     let m : length (spellings ts) ≡ length ts = length-map ts (λ t. t.text) in
     let n : length (spellings after) ≡ length after = length-map after (λ t. t.text) in
     omega (arith, e, m, n)
-
--- the head of a program
-pub form_is : (ts body : List Token) (answer : Bool) → Some (spellings body) ≡ behind (codes "fn" ∷ codes "main" ∷ codes "(" ∷ codes ")" ∷ codes "{" ∷ []) (spellings ts) → IsTrue answer ↔ Reads [] (spellings body) → IsTrue answer ↔ FirstForm E2015 ts
-form_is ts body answer h k =
-    let m : spellings ts ≡ main_of (spellings body) = behind_is (codes "fn" ∷ codes "main" ∷ codes "(" ∷ codes ")" ∷ codes "{" ∷ []) (spellings ts) (spellings body) (sym h) in
-    (λ (t : IsTrue answer). (let r = k.0 t in (r.0, (spellings body, m, r.1))),
-    λ f. k.1 (f.0, subst (λ x. Body E2015 [] x f.0) (ap (drop 5) (sym f.1.1 ∙ m)) f.1.2))
-
-pub no_form : (ts : List Token) → None ≡ behind (codes "fn" ∷ codes "main" ∷ codes "(" ∷ codes ")" ∷ codes "{" ∷ []) (spellings ts) → IsTrue false ↔ FirstForm E2015 ts
-no_form ts h = (λ (t : IsTrue false). both _ (sym t), λ f. none_some _ _ (h ∙ ap (behind (codes "fn" ∷ codes "main" ∷ codes "(" ∷ codes ")" ∷ codes "{" ∷ [])) f.1.1))

@@ -1,7 +1,11 @@
 //! Programs of the first form: their statements, what they print, and what the edition 2018 finds in them.
 #![tactic(auto)]
 
+mod findings;
 mod form;
+mod laws;
 mod words;
 
+pub use findings::keyword_findings;
 pub use form::is_first_form;
+pub use laws::{core_is_kept, core_is_one, events_are_kept, nothing_is_left};

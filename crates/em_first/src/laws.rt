@@ -1,0 +1,29 @@
+ghost use Rattle.em_first.specs.Laws.{KeepsCore, KeepsEvents, NothingLeft, OneCore};
+
+/// A program of 2015 is one of 2018 with the same statements where the words that 2018 takes are raw.
+#[tactic(auto, using(crate::proofs::Keeps::keeps_core))]
+pub fn core_is_kept()
+    ensures { KeepsCore }
+{
+}
+
+/// A program has one list of statements.
+#[tactic(auto, using(crate::proofs::One::one_core))]
+pub fn core_is_one()
+    ensures { OneCore }
+{
+}
+
+/// No word that 2018 takes is left.
+#[tactic(auto, using(crate::proofs::Keeps::nothing_left))]
+pub fn nothing_is_left()
+    ensures { NothingLeft }
+{
+}
+
+/// Both programs print the same, after any number of statements.
+#[tactic(auto, using(crate::proofs::Keeps::keeps_events))]
+pub fn events_are_kept()
+    ensures { KeepsEvents }
+{
+}
