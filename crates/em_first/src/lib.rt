@@ -8,4 +8,4 @@ mod words;
 
 pub use findings::keyword_findings;
 pub use form::is_first_form;
-pub use laws::{core_is_kept, core_is_one, events_are_kept, nothing_is_left};
+pub use laws::{a_sample, core_is_kept, core_is_one, events_are_kept, nothing_is_left};
