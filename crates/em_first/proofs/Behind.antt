@@ -1,12 +1,11 @@
 -- The words that tokens begin with.
-use Rattle.std.proofs.Common.{◌≡◌, ◌<◌, ◌≤◌, ℕ, suc, zero, ◌+◌, ◌-◌, Bool, true, false, cond, not, List, [], ◌∷◌, length, map, drop, get_or, refl, subst, sym, ap, ◌∙◌, arith, Bor}
-use Rattle.std.specs.Prelude.{Option, Some, None}
+use Rattle.std.proofs.Common.{◌≡◌, ◌<◌, ◌≤◌, ℕ, suc, ◌+◌, Bool, true, false, cond, not, List, [], ◌∷◌, length, map, drop, get_or, refl, sym, ap, ◌∙◌, arith, Bor}
+use Rattle.std.specs.Prelude.{Some, None}
 use Rattle.std.specs.Str.{bytes_eq}
 use Rattle.std.proofs.lemmas.List.{at_drop_more, at_drop_all, length-drop}
 use Rattle.em_base.specs.declared.token.Token.{Token}
 use Rattle.em_first.specs.Form.{spellings}
 use Rattle.em_first.specs.Reading.{behind}
-
 
 -- the words from an index on
 abbrev pub left : List (Bor (List ℕ)) → ℕ → List (List ℕ)

@@ -1,7 +1,6 @@
 -- The text after the findings.
-use Rattle.std.proofs.Common.{◌≡◌, ◌≢◌, ◌⊎◌, inl, inr, ℕ, suc, zero, ◌+◌, ◌-◌, ◌<◌, ◌≤◌, Bool, true, false, cond, ◌&&◌, not, List, [], ◌∷◌, ◌++◌, length, map, take, drop, get_or, codes, refl, subst, sym, ap, ◌∙◌, arith, append_assoc}
-use Rattle.std.specs.Prelude.{Option, Some, All, AllPairs, filter, nat_le, nat_lt, ◌==◌, slice_get, slice_index}
-use Rattle.std.specs.List.{flat_map}
+use Rattle.std.proofs.Common.{◌≡◌, inl, inr, ℕ, ◌+◌, ◌-◌, ◌<◌, ◌≤◌, Bool, true, false, cond, ◌&&◌, not, List, [], ◌∷◌, ◌++◌, length, map, take, drop, codes, refl, subst, sym, ap, ◌∙◌, arith, append_assoc}
+use Rattle.std.specs.Prelude.{All, AllPairs, filter, nat_le, ◌==◌, slice_get, slice_index}
 use Rattle.std.specs.Str.{IsAscii}
 use Rattle.std.proofs.Math.Seq.{take-add}
 use Rattle.std.proofs.lemmas.Bool.Decides.{nat_tests, Decides-eqb}
@@ -12,10 +11,10 @@ use Rattle.em_base.specs.declared.edition.Edition.{Edition}
 use Rattle.em_base.specs.declared.edition.Edition.TheVariants.{E2015, E2018}
 use Rattle.em_base.specs.declared.edit.Part.{Part}
 use Rattle.em_base.specs.declared.token.Token.{Token}
-use Rattle.em_edit.specs.Edited.{edited_on, edited, all_parts, parts_of}
-use Rattle.em_edit.specs.Fit.{is_boundary, LiesIn, Apart, AreApplicable}
+use Rattle.em_edit.specs.Edited.{edited_on, edited, all_parts}
+use Rattle.em_edit.specs.Fit.{is_boundary, LiesIn, Apart}
 use Rattle.em_edit.specs.Laws.{NoPartKeeps, StartFrom, FirstPartFirst}
-use Rattle.em_lex.specs.Laws.{MarkedLexes, LieInOrder, LieInText, TokensInText}
+use Rattle.em_lex.specs.Laws.{MarkedLexes, LieInOrder, TokensInText}
 use Rattle.em_lex.specs.Lexing.{Lexes}
 use Rattle.em_lex.specs.Marking.{marked, moved}
 use Rattle.em_first.specs.Keyword.{is_found, finding, findings}
@@ -164,13 +163,13 @@ all_lie offset text (t ∷ ts) a h = here (is_found t) (all_lie t.span.end text 
   where
     here : (c : Bool) → All (LiesIn (text ∷ [])) (parts ts) → All (LiesIn (text ∷ [])) (cond c (part t ∷ parts ts) (parts ts))
     here true g = All-cons (LiesIn (text ∷ [])) (part t) (parts ts) (record {
-        text = text;
-        file = ap (λ (i : ℕ). slice_get (text ∷ []) i) h.0.file_is;
-        ordered = (let b = h.0.some in let e : t.span.start ≤ t.span.end = omega (arith, b) in e);
-        within = h.0.within;
-        starts_whole = boundary text t.span.start a;
-        ends_whole = boundary text t.span.end a;
-      }) g
+      text = text;
+      file = ap (λ (i : ℕ). slice_get (text ∷ []) i) h.0.file_is;
+      ordered = (let b = h.0.some in let e : t.span.start ≤ t.span.end = omega (arith, b) in e);
+      within = h.0.within;
+      starts_whole = boundary text t.span.start a;
+      ends_whole = boundary text t.span.end a;
+    }) g
     here false g = g
 
 apart_from : (p : Part) (from upto : ℕ) (ps : List Part) → p.span.start < p.span.end → p.span.end ≤ from → Rising from upto ps → All (Apart p) ps

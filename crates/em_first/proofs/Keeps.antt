@@ -1,5 +1,5 @@
 -- The first form is kept.
-use Rattle.std.proofs.Common.{◌≡◌, ℕ, ◌+◌, Bool, true, false, cond, ◌&&◌, ◌||◌, not, List, [], ◌∷◌, ◌++◌, map, drop, codes, refl, subst, sym, ap, ◌∙◌}
+use Rattle.std.proofs.Common.{◌≡◌, ℕ, ◌+◌, Bool, true, false, cond, ◌&&◌, ◌||◌, not, List, [], ◌∷◌, ◌++◌, map, codes, refl, subst, sym, ap, ◌∙◌}
 use Rattle.std.specs.Prelude.{filter}
 use Rattle.std.specs.List.{list_any, list_all}
 use Rattle.std.specs.Str.{bytes_eq}
@@ -8,7 +8,7 @@ use Rattle.em_base.specs.declared.token.Token.{Token}
 use Rattle.em_lex.specs.Marking.{moved, moved_token, growth}
 use Rattle.em_lex.specs.Spelling.{is_digit, is_word, is_raw_word}
 use Rattle.em_first.specs.Keyword.{is_taken, is_found, findings, finding}
-use Rattle.em_first.specs.Form.{old_keywords, is_name, name_of, Statement, Let, Print, let_of, Body, spellings, FirstCore, latest}
+use Rattle.em_first.specs.Form.{old_keywords, is_name, name_of, Statement, Let, Print, let_of, Body, spellings, latest}
 use Rattle.em_first.specs.Events.{first_events}
 use Rattle.em_first.specs.Laws.{KeepsCore, NothingLeft, KeepsEvents}
 use Rattle.em_first.proofs.One.{both, one_core}
@@ -36,9 +36,15 @@ digits_kept w = taken_or (λ c. list_all is_digit w ≡ true → cond c (codes "
 
 body_kept : (names ws : List (List ℕ)) (core : List Statement) → Body E2015 names ws core → Body E2018 names (map raw_if ws) core
 body_kept names ws [] h = ap (map raw_if) h
-body_kept names ws (Let value ∷ core) h =
-    (raw_if h.0, h.1, map raw_if h.2, ap (map raw_if) h.3 ∙ ap (λ d. let_of (raw_if h.0) d (map raw_if h.2)) (digits_kept h.1 h.5.decimal), name_kept h.0 h.4, h.5,
-    subst (λ n. Body E2018 (n ∷ names) (map raw_if h.2) core) (sym (same_name h.0)) (body_kept (name_of h.0 ∷ names) h.2 core h.6))
+body_kept names ws (Let value ∷ core) h = (
+  raw_if h.0,
+  h.1,
+  map raw_if h.2,
+  ap (map raw_if) h.3 ∙ ap (λ d. let_of (raw_if h.0) d (map raw_if h.2)) (digits_kept h.1 h.5.decimal),
+  name_kept h.0 h.4,
+  h.5,
+  subst (λ n. Body E2018 (n ∷ names) (map raw_if h.2) core) (sym (same_name h.0)) (body_kept (name_of h.0 ∷ names) h.2 core h.6),
+)
 body_kept names ws (Print which ∷ core) h =
     (raw_if h.0, map raw_if h.1, ap (map raw_if) h.2, name_kept h.0 h.3, ap (λ n. latest n names) (same_name h.0) ∙ h.4, body_kept names h.1 core h.5)
 

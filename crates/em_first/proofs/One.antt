@@ -1,9 +1,9 @@
 -- A program has one list of statements.
-use Rattle.std.proofs.Common.{◌≡◌, ℕ, Bool, true, false, List, [], ◌∷◌, drop, get_or, codes, refl, subst, sym, ap, ◌∙◌}
-use Rattle.std.specs.Prelude.{Option, Some, None}
+use Rattle.std.proofs.Common.{◌≡◌, ℕ, true, false, List, [], ◌∷◌, drop, get_or, codes, refl, subst, sym, ap, ◌∙◌}
+use Rattle.std.specs.Prelude.{Some}
 use Rattle.std.specs.Str.{bytes_eq}
 use Rattle.em_base.specs.declared.edition.Edition.{Edition}
-use Rattle.em_first.specs.Form.{name_of, Statement, Let, Print, let_of, print_of, main_of, Body, latest, number}
+use Rattle.em_first.specs.Form.{name_of, Statement, Let, Print, let_of, print_of, Body, latest, number}
 use Rattle.em_first.specs.Laws.{OneCore}
 
 pub both : (P : Type 0) → true ≡ false → P

@@ -1,18 +1,15 @@
 -- How far a reader of statements has come.
-use Rattle.std.proofs.Common.{◌≡◌, ◌<◌, ◌≤◌, ◌↔◌, IsTrue, ℕ, suc, zero, ◌+◌, ◌-◌, Bool, true, false, cond, ◌&&◌, ◌||◌, List, [], ◌∷◌, ◌++◌, length, map, drop, codes, refl, subst, sym, ap, ◌∙◌, arith, lit<, Bor}
+use Rattle.std.proofs.Common.{◌≡◌, ◌≤◌, ℕ, Bool, true, false, cond, ◌&&◌, ◌||◌, List, [], ◌∷◌, ◌++◌, length, codes, refl, subst, sym, ap, ◌∙◌, arith}
 use Rattle.std.specs.Prelude.{Option, Some, None, nat_lt, nat_le, option_and_then}
-use Rattle.std.specs.List.{list_all, list_any}
+use Rattle.std.specs.List.{list_any}
 use Rattle.std.specs.Option.{option_map}
 use Rattle.std.specs.Str.{bytes_eq}
 use Rattle.std.proofs.lemmas.Bool.Decides.{nat_tests}
-use Rattle.std.proofs.lemmas.List.{length-map}
 use Rattle.std.proofs.lemmas.Slice.Eq.{bytes_eq-Decides}
 use Rattle.em_base.specs.declared.edition.Edition.TheVariants.{E2015}
-use Rattle.em_base.specs.declared.token.Token.{Token}
-use Rattle.em_lex.specs.Spelling.{is_digit}
-use Rattle.em_first.specs.Form.{name_of, is_name, number, IsInt, Statement, Let, Print, let_of, print_of, main_of, Body, spellings, FirstForm, latest}
-use Rattle.em_first.specs.Reading.{behind, name_first, is_int, behind_int, let_first, print_first, is_end, Reads}
-use Rattle.em_first.proofs.One.{both, alike}
+use Rattle.em_first.specs.Form.{name_of, is_name, number, IsInt, let_of, print_of, latest}
+use Rattle.em_first.specs.Reading.{behind, name_first, is_int, behind_int, let_first, print_first}
+use Rattle.em_first.proofs.One.{both}
 
 pub none_some : {A : Type 0} (P : Type 0) (a : A) → None ≡ Some a → P
 none_some P a h = (cc)

@@ -1,11 +1,11 @@
 -- Words in tables, names and integers.
-use Rattle.std.proofs.Common.{◌≡◌, ◌<◌, ◌≤◌, ℕ, suc, zero, ◌+◌, ◌-◌, ◌*◌, Bool, true, false, cond, ◌&&◌, ◌||◌, not, List, [], ◌∷◌, ◌++◌, length, map, take, drop, get_or, codes, refl, subst, sym, ap, ◌∙◌, arith, Bor}
+use Rattle.std.proofs.Common.{◌≡◌, ◌<◌, ◌≤◌, ℕ, ◌+◌, ◌-◌, ◌*◌, Bool, true, false, ◌&&◌, ◌||◌, not, List, [], ◌∷◌, ◌++◌, length, map, drop, codes, refl, sym, ap, ◌∙◌, arith, Bor}
 use Rattle.std.specs.Prelude.{nat_le, nat_lt, nat_eq}
 use Rattle.std.specs.List.{list_all, list_any, starts_with}
 use Rattle.std.specs.Str.{bytes_eq}
 use Rattle.std.proofs.lemmas.Bool.Decides.{nat_tests, Decides-eqb}
 use Rattle.std.proofs.lemmas.Slice.Eq.{bytes_eq-Decides, starts_is}
-use Rattle.em_lex.specs.Spelling.{is_digit, is_word, is_never_raw, is_raw_word}
+use Rattle.em_lex.specs.Spelling.{is_digit, is_word, is_never_raw}
 use Rattle.em_base.specs.declared.edition.Edition.TheVariants.{E2015}
 use Rattle.em_first.specs.Form.{is_name, number, old_keywords}
 use Rattle.em_first.specs.Reading.{is_int}

@@ -1,6 +1,6 @@
 -- The walk of a reader over statements.
-use Rattle.std.proofs.Common.{◌≡◌, ◌<◌, ◌≤◌, ◌↔◌, IsTrue, ℕ, suc, zero, ◌+◌, ◌-◌, Bool, true, false, cond, ◌&&◌, ◌||◌, not, List, [], ◌∷◌, ◌++◌, length, map, drop, get_or, codes, refl, subst, sym, ap, ◌∙◌, arith, Bor}
-use Rattle.std.specs.Prelude.{Option, Some, None, nat_eq, ◌==◌}
+use Rattle.std.proofs.Common.{◌≡◌, ◌<◌, ◌↔◌, IsTrue, ℕ, suc, Bool, true, false, ◌||◌, List, [], ◌∷◌, length, drop, get_or, codes, refl, subst, sym, ap, ◌∙◌, arith, Bor}
+use Rattle.std.specs.Prelude.{Option, Some, None, ◌==◌}
 use Rattle.std.specs.BTreeMap.{is_at}
 use Rattle.std.specs.BTreeSet.{insert_key}
 use Rattle.std.specs.Cmp.Lexicographic.{slice_cmp}
@@ -16,7 +16,7 @@ use Rattle.std.proofs.lemmas.Map.Text.{is_eq-slice_cmp}
 use Rattle.std.proofs.lemmas.Slice.Eq.{bytes_eq-Decides}
 use Rattle.em_base.specs.declared.edition.Edition.TheVariants.{E2015}
 use Rattle.em_base.specs.declared.token.Token.{Token}
-use Rattle.em_first.specs.Form.{name_of, is_name, number, IsInt, Statement, Let, Print, let_of, print_of, main_of, Body, spellings, FirstForm, latest}
+use Rattle.em_first.specs.Form.{name_of, number, Statement, Let, Print, let_of, print_of, Body, spellings, latest}
 use Rattle.em_first.specs.Reading.{behind, let_first, print_first, is_end, Reads}
 use Rattle.em_first.proofs.One.{both, alike}
 use Rattle.em_first.proofs.Spelled.{bytes_eq_sym}

@@ -5,7 +5,7 @@ use Rattle.em_base.specs.declared.token.Token.{Token}
 use Rattle.em_lex.specs.Marking.{moved}
 use Rattle.em_first.specs.Keyword.{is_found}
 use Rattle.em_first.specs.Form.{Statement, Let, Print, let_of, print_of, main_of, spellings, FirstCore}
-use Rattle.em_first.specs.Events.{Events, first_events}
+use Rattle.em_first.specs.Events.{first_events}
 
 -- `fn main() { let async = 41; let r#async = 7; println!("{}", async); }`: the second `let` binds the same name again
 abbrev pub sample : List (List ℕ)

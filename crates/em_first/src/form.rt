@@ -42,7 +42,11 @@ fn behind_int(tokens: &[Token]) -> Option<&[Token]>
     ensures { option_map (λ r. spellings r.now) result ≡ behind_int (spellings tokens.now) }
 {
     let (first, rest) = tokens.split_first()?;
-    if is_int(first.text.as_str()) { Some(rest) } else { None }
+    if is_int(first.text.as_str()) {
+        Some(rest)
+    } else {
+        None
+    }
 }
 
 /// The name that a `let` binds, and the tokens behind it.

@@ -5,27 +5,23 @@ ghost use Rattle.em_first.specs.Sample.{HasSample, KeepsSample, SampleBegins, Sa
 #[tactic(auto, using(crate::proofs::Keeps::keeps_core))]
 pub fn core_is_kept()
     ensures { KeepsCore }
-{
-}
+{}
 
 /// A program has one list of statements.
 pub fn core_is_one()
     ensures { OneCore }
-{
-}
+{}
 
 /// No word that 2018 takes is left.
 #[tactic(auto, using(crate::proofs::Keeps::nothing_left))]
 pub fn nothing_is_left()
     ensures { NothingLeft }
-{
-}
+{}
 
 /// Both programs print the same, after any number of statements.
 pub fn events_are_kept()
     ensures { KeepsEvents }
-{
-}
+{}
 
 /// A program of the first form, and what it prints, so that the laws speak of something.
 pub fn a_sample()
@@ -33,5 +29,4 @@ pub fn a_sample()
     ensures kept { KeepsSample }
     ensures begins { SampleBegins }
     ensures prints { SamplePrints }
-{
-}
+{}

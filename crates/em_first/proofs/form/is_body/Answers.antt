@@ -1,4 +1,4 @@
-use Rattle.std.proofs.Common.{sym, ap, ◌∙◌}
+use Rattle.std.proofs.Common.{sym, ◌∙◌}
 use Rattle.em_first.specs.Form.{spellings}
 use Rattle.em_first.proofs.Walk.{started, let_step, print_step, unbound, ended, let_shorter, print_shorter}
 use Rattle.em_first.proofs.form.is_body.Goals as goal

@@ -1,4 +1,4 @@
-use Rattle.std.proofs.Common.{arith, ◌∙◌, ◌+◌, ◌*◌, drop, ap, sym}
+use Rattle.std.proofs.Common.{◌∙◌, ◌+◌, ◌*◌, drop, ap, sym}
 use Rattle.std.proofs.lemmas.List.{at_drop_more}
 use Rattle.em_first.specs.Form.{number}
 use Rattle.em_first.proofs.Spelled.{too_large}
