@@ -1,12 +1,11 @@
 //! Edits: suggestions and their application.
 #![tactic(auto)]
 
+mod application;
+mod bad_edit;
 mod laws;
+mod order;
 
+pub use application::apply;
+pub use bad_edit::BadEdit;
 pub use laws::{first_part_first, no_part_keeps};
-
-/// Why suggestions can't be applied.
-#[derive(Clone, Copy, Debug, PartialEq, Eq)]
-pub enum BadEdit {
-    NoMemory,
-}
