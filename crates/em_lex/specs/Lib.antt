@@ -3,3 +3,4 @@ pub mod Lexing
 pub mod Answers
 pub mod Marking
 pub mod Laws
+pub mod Scan

@@ -32,6 +32,10 @@ is_never_raw w = list_any (bytes_eq w) never_raw
 abbrev pub is_raw_word : List ℕ → Bool
 is_raw_word w = starts_with nat_eq w (codes "r#") && (is_word (drop 2 w) && not (is_never_raw (drop 2 w)))
 
+-- a reserved form: `r#` and a word of which there is no raw form (Reference, "Identifiers", raw identifiers)
+abbrev pub is_reserved : List ℕ → Bool
+is_reserved w = starts_with nat_eq w (codes "r#") && is_never_raw (drop 2 w)
+
 -- one decimal digit or more
 abbrev pub is_number : List ℕ → Bool
 is_number [] = false
@@ -53,7 +57,7 @@ punctuation = codes "=" ∷ codes ";" ∷ codes "!" ∷ codes "," ∷ []
 abbrev pub is_spelling : List ℕ → Bool
 is_spelling w = is_word w || (is_raw_word w || (is_number w || (is_literal w || (list_any (bytes_eq w) opening || (list_any (bytes_eq w) closing || list_any (bytes_eq w) punctuation)))))
 
--- a spelling at the front of a text than which none there is longer
+-- a spelling at the front of a text than which no spelling and no reserved form there is longer
 pub record IsLongest (text w : List ℕ) : Type 0 where
   pub spelling : is_spelling w ≡ true
-  pub longest : (v rest : List ℕ) → text ≡ v ++ rest → is_spelling v ≡ true → length v ≤ length w
+  pub longest : (v rest : List ℕ) → text ≡ v ++ rest → (is_spelling v || is_reserved v) ≡ true → length v ≤ length w

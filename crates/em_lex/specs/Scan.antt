@@ -1,0 +1,48 @@
+-- How the lexer scans one spelling.
+use Rattle.std.specs.Prelude.{ℕ, ◌+◌, Bool, true, false, ◌&&◌, ◌||◌, ◌==◌, nat_eq, List, [], ◌∷◌, take, drop, codes, if◌then◌else◌}
+use Rattle.std.specs.List.{prefix_len, starts_with}
+use Rattle.em_base.specs.declared.token.TokenKind.{TokenKind}
+use Rattle.em_base.specs.declared.token.TokenKind.TheVariants.{Ident, Int, Str, Open, Close, Punct}
+use Rattle.em_lex.specs.Spelling.{is_digit, is_word_start, is_word_byte, is_never_raw}
+
+-- a byte that is a spelling alone
+abbrev pub is_mark : ℕ → Bool
+is_mark b = (b == 40) || (b == 123) || (b == 41) || (b == 125) || (b == 61) || (b == 59) || (b == 33) || (b == 44)
+
+abbrev pub word_len : List ℕ → ℕ
+word_len text = prefix_len is_word_byte text
+
+abbrev pub starts_word : List ℕ → Bool
+starts_word [] = false
+starts_word (b ∷ bs) = is_word_start b
+
+-- `r#` and a word stand at the front
+abbrev pub starts_raw : List ℕ → Bool
+starts_raw text = starts_with nat_eq text (codes "r#") && starts_word (drop 2 text)
+
+-- the length of `r#` and the word that follows it, and 0 where the word has no raw form
+abbrev pub raw_len : List ℕ → ℕ
+raw_len text = if is_never_raw (take (word_len text) text) then 0 else 2 + word_len text
+
+-- the length of the longest spelling at the front, and 0 where there is none
+abbrev pub scanned_len : List ℕ → ℕ
+scanned_len [] = 0
+scanned_len (b ∷ bs) =
+    if is_word_start b then (if starts_raw (b ∷ bs) then raw_len (drop 2 (b ∷ bs)) else word_len (b ∷ bs))
+    else (if is_digit b then prefix_len is_digit (b ∷ bs)
+    else (if is_mark b then 1
+    else (if starts_with nat_eq (b ∷ bs) (codes "\"{}\"") then 4 else 0)))
+
+-- the identifier of a word or a raw word
+abbrev pub identifier_of : List ℕ → TokenKind
+identifier_of w = if starts_with nat_eq w (codes "r#") then Ident (drop 2 w) true else Ident w false
+
+-- the kind of a spelling, by its first byte
+abbrev pub scanned_kind : List ℕ → TokenKind
+scanned_kind [] = Punct
+scanned_kind (b ∷ bs) =
+    if is_word_start b then identifier_of (b ∷ bs)
+    else (if is_digit b then Int
+    else (if b == 34 then Str
+    else (if (b == 40) || (b == 123) then Open
+    else (if (b == 41) || (b == 125) then Close else Punct))))
