@@ -7,7 +7,7 @@ use Rattle.std.proofs.lemmas.Str.{IsAscii-drop}
 use Rattle.std.proofs.lemmas.Str.Ascii.{IsAscii-nil}
 use Rattle.em_lex.specs.Spelling.{is_trivia, is_digit, is_word_byte, is_word, is_spelling}
 use Rattle.em_lex.specs.Scan.{is_mark}
-use Rattle.em_lex.proofs.Shapes.{and_cases, Shape, plain, raw, digits, text, single, shape_of}
+use Rattle.em_lex.proofs.Shapes.{and_cases, Shape, plain, raw, digits, quoted, single, shape_of}
 use Rattle.em_lex.proofs.Fronts.{word_bytes, number_bytes}
 
 small_word : (b : ℕ) → is_word_byte b ≡ true → b < 128
@@ -40,7 +40,7 @@ ascii_shape : (w : List ℕ) → Shape w → IsAscii w
 ascii_shape w (plain h) = ascii_all is_word_byte small_word w (word_bytes w h)
 ascii_shape w (raw x e h n) = subst IsAscii (sym e) (ascii_more 114 (35 ∷ x) (lit< tt) (ascii_more 35 x (lit< tt) (ascii_all is_word_byte small_word x (word_bytes x h))))
 ascii_shape w (digits h) = ascii_all is_digit small_digit w (number_bytes w h)
-ascii_shape w (text e) = subst IsAscii (sym e) ascii_literal
+ascii_shape w (quoted e) = subst IsAscii (sym e) ascii_literal
 ascii_shape w (single b e h) = subst IsAscii (sym e) (ascii_more b [] (small_mark b h) IsAscii-nil)
 
 pub spelling_is_ascii : (w : List ℕ) → is_spelling w ≡ true → IsAscii w

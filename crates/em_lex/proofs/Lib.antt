@@ -8,3 +8,4 @@ pub mod Steps
 pub mod One
 pub mod Walk
 pub mod Places
+pub mod Marked

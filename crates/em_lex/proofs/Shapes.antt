@@ -1,12 +1,12 @@
--- The shapes of spellings and of reserved forms.
+-- The shapes of spellings and of unbuilt forms.
 use Rattle.std.proofs.Common.{◌≡◌, ◌⊎◌, inl, inr, ℕ, ◌<◌, Bool, true, false, cond, ◌&&◌, ◌||◌, not, List, [], ◌∷◌, ◌++◌, length, take, drop, codes, refl, subst, sym, ap, ◌∙◌, arith}
 use Rattle.std.specs.Prelude.{nat_eq}
 use Rattle.std.specs.List.{starts_with, list_all, list_any}
 use Rattle.std.specs.Str.{bytes_eq}
 use Rattle.std.proofs.lemmas.Bool.Decides.{nat_tests, Decides-eqb}
 use Rattle.std.proofs.lemmas.Slice.Eq.{starts_is, bytes_eq-Decides}
-use Rattle.em_lex.specs.Spelling.{is_trivia, is_digit, is_word_start, is_word_byte, is_word, is_never_raw, never_raw, is_raw_word, is_reserved, is_number, is_literal, opening, closing, punctuation, is_spelling}
-use Rattle.em_lex.specs.Scan.{is_mark}
+use Rattle.em_lex.specs.Spelling.{is_trivia, is_digit, is_word_start, is_word_byte, is_word, is_never_raw, never_raw, is_raw_word, is_number, is_literal, opening, closing, punctuation, is_spelling, compound, Unbuilt, reserved, suffixed, prefixed, longer}
+use Rattle.em_lex.specs.Scan.{is_mark, is_compound_start}
 
 pub impossible : {A : Type 0} → false ≡ true → A
 impossible h = absurd (subst (λ c. cond c ⊥ (Unit {0})) h tt)
@@ -74,20 +74,24 @@ mark_listed b h = grind (arith, nat_tests)
 pub each_mark : (P : ℕ → Type 0) (b : ℕ) → EachByte P (codes "(){}=;!,") → is_mark b ≡ true → P b
 each_mark P b e h = any_byte P b (codes "(){}=;!,") e (mark_listed b h)
 
--- a spelling or a reserved form
+-- a spelling or an unbuilt form
 pub data Form (v : List ℕ) : Type 0 where
   word : is_word v ≡ true → Form v
   hashed : (x : List ℕ) → v ≡ 114 ∷ 35 ∷ x → is_word x ≡ true → Form v
   number : is_number v ≡ true → Form v
   literal : v ≡ codes "\"{}\"" → Form v
   mark : (b : ℕ) → v ≡ b ∷ [] → is_mark b ≡ true → Form v
+  number_word : (x y : List ℕ) → v ≡ x ++ y → is_number x ≡ true → is_word y ≡ true → Form v
+  literal_word : (y : List ℕ) → v ≡ codes "\"{}\"" ++ y → is_word y ≡ true → Form v
+  word_quote : (x : List ℕ) → v ≡ x ++ 34 ∷ [] → is_word x ≡ true → Form v
+  mark_equals : (b : ℕ) → v ≡ b ∷ 61 ∷ [] → is_mark b ≡ true → is_compound_start b ≡ true → Form v
 
 -- a spelling
 pub data Shape (v : List ℕ) : Type 0 where
   plain : is_word v ≡ true → Shape v
   raw : (x : List ℕ) → v ≡ 114 ∷ 35 ∷ x → is_word x ≡ true → is_never_raw x ≡ false → Shape v
   digits : is_number v ≡ true → Shape v
-  text : v ≡ codes "\"{}\"" → Shape v
+  quoted : v ≡ codes "\"{}\"" → Shape v
   single : (b : ℕ) → v ≡ b ∷ [] → is_mark b ≡ true → Shape v
 
 pub hash_front : (v : List ℕ) → starts_with nat_eq v (codes "r#") ≡ true → v ≡ 114 ∷ 35 ∷ drop 2 v
@@ -102,10 +106,15 @@ raw_shape v h =
     let b = and_cases (is_word (drop 2 v)) (not (is_never_raw (drop 2 v))) a.1 in
     raw (drop 2 v) (hash_front v a.0) b.0 (not_true _ b.1)
 
-reserved_form : (v : List ℕ) → is_reserved v ≡ true → Form v
-reserved_form v h =
-    let a = and_cases (starts_with nat_eq v (codes "r#")) (is_never_raw (drop 2 v)) h in
-    hashed (drop 2 v) (hash_front v a.0) (never_word (drop 2 v) a.1)
+suffixed_form : (v x y : List ℕ) → v ≡ x ++ y → is_word y ≡ true → (is_number x ≡ true) ⊎ (is_literal x ≡ true) → Form v
+suffixed_form v x y e h (inl n) = number_word x y e n h
+suffixed_form v x y e h (inr l) = literal_word y (e ∙ ap (λ x. x ++ y) ((bytes_eq-Decides x (codes "\"{}\"")).0 l)) h
+
+unbuilt_form : (v : List ℕ) → Unbuilt v → Form v
+unbuilt_form v (reserved x e h) = hashed x e (never_word x h)
+unbuilt_form v (suffixed x y e h k) = suffixed_form v x y e k (or_cases (is_number x) (is_literal x) h)
+unbuilt_form v (prefixed x e h) = word_quote x e h
+unbuilt_form v (longer h) = any_of Form v compound (mark_equals 61 refl refl refl, (mark_equals 33 refl refl refl, tt)) h
 
 pub shape_of : (v : List ℕ) → is_spelling v ≡ true → Shape v
 shape_of v h = elim (or_cases (is_word v) _ h) [
@@ -115,7 +124,7 @@ shape_of v h = elim (or_cases (is_word v) _ h) [
     | inr h ↦ elim (or_cases (is_number v) _ h) [
       | inl a ↦ digits a
       | inr h ↦ elim (or_cases (is_literal v) _ h) [
-        | inl a ↦ text ((bytes_eq-Decides v (codes "\"{}\"")).0 a)
+        | inl a ↦ quoted ((bytes_eq-Decides v (codes "\"{}\"")).0 a)
         | inr h ↦ elim (or_cases (list_any (bytes_eq v) opening) _ h) [
           | inl a ↦ any_of Shape v opening (single 40 refl refl, (single 123 refl refl, tt)) a
           | inr h ↦ elim (or_cases (list_any (bytes_eq v) closing) _ h) [
@@ -132,14 +141,12 @@ shape_form : (v : List ℕ) → Shape v → Form v
 shape_form v (plain h) = word h
 shape_form v (raw x e h n) = hashed x e h
 shape_form v (digits h) = number h
-shape_form v (text h) = literal h
+shape_form v (quoted h) = literal h
 shape_form v (single b e h) = mark b e h
 
-pub form_of : (v : List ℕ) → (is_spelling v || is_reserved v) ≡ true → Form v
-form_of v h = elim (or_cases (is_spelling v) (is_reserved v) h) [
-  | inl a ↦ shape_form v (shape_of v a)
-  | inr a ↦ reserved_form v a
-]
+pub form_of : (v : List ℕ) → (is_spelling v ≡ true) ⊎ Unbuilt v → Form v
+form_of v (inl h) = shape_form v (shape_of v h)
+form_of v (inr h) = unbuilt_form v h
 
 pub word_spelled : (v : List ℕ) → is_word v ≡ true → is_spelling v ≡ true
 word_spelled v h = or_left (is_word v) _ h
@@ -157,9 +164,19 @@ pub shape_spelled : (v : List ℕ) → Shape v → is_spelling v ≡ true
 shape_spelled v (plain h) = word_spelled v h
 shape_spelled v (raw x e h n) = subst (λ v. is_spelling v ≡ true) (sym e) (raw_spelled x h n)
 shape_spelled v (digits h) = number_spelled v h
-shape_spelled v (text e) = subst (λ v. is_spelling v ≡ true) (sym e) refl
+shape_spelled v (quoted e) = subst (λ v. is_spelling v ≡ true) (sym e) refl
 shape_spelled v (single b e h) = subst (λ v. is_spelling v ≡ true) (sym e) (each_mark (λ b. is_spelling (b ∷ []) ≡ true) b (refl, (refl, (refl, (refl, (refl, (refl, (refl, (refl, tt)))))))) h)
 
 -- `r#` and any word is a spelling or reserved
-pub hashed_form : (x : List ℕ) → is_word x ≡ true → (is_spelling (114 ∷ 35 ∷ x) || is_reserved (114 ∷ 35 ∷ x)) ≡ true
-hashed_form x h = by_test _ (is_never_raw x) (λ n. or_right (is_spelling (114 ∷ 35 ∷ x)) _ n) (λ n. or_left (is_spelling (114 ∷ 35 ∷ x)) _ (raw_spelled x h n))
+pub hashed_form : (x : List ℕ) → is_word x ≡ true → (is_spelling (114 ∷ 35 ∷ x) ≡ true) ⊎ Unbuilt (114 ∷ 35 ∷ x)
+hashed_form x h = by_test _ (is_never_raw x) (λ n. inr (reserved x refl n)) (λ n. inl (raw_spelled x h n))
+
+compound_cases : (P : ℕ → Type 0) (b : ℕ) → P 61 → P 33 → is_compound_start b ≡ true → P b
+compound_cases P b p q h = elim (or_cases (nat_eq b 61) (nat_eq b 33) h) [
+  | inl a ↦ subst P (sym ((Decides-eqb b 61).0 a)) p
+  | inr a ↦ subst P (sym ((Decides-eqb b 33).0 a)) q
+]
+
+-- `=` or `!` with a `=` behind it is compound punctuation
+pub compound_form : (b : ℕ) → is_compound_start b ≡ true → Unbuilt (b ∷ 61 ∷ [])
+compound_form b h = compound_cases (λ b. Unbuilt (b ∷ 61 ∷ [])) b (longer refl) (longer refl) h

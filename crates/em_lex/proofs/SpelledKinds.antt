@@ -8,7 +8,7 @@ use Rattle.em_base.specs.declared.token.TokenKind.TheVariants.{Ident, Int}
 use Rattle.em_lex.specs.Spelling.{is_digit, is_word_start, is_word, is_raw_word, is_never_raw, is_number, is_spelling}
 use Rattle.em_lex.specs.Lexing.{kind_of}
 use Rattle.em_lex.specs.Scan.{scanned_kind, identifier_of}
-use Rattle.em_lex.proofs.Shapes.{impossible, and_cases, Shape, plain, raw, digits, text, single, hash_front, shape_of, raw_is, each_mark}
+use Rattle.em_lex.proofs.Shapes.{impossible, and_cases, Shape, plain, raw, digits, quoted, single, hash_front, shape_of, raw_is, each_mark}
 use Rattle.em_lex.proofs.Longest.{word_starts, number_starts, word_digit, not_both}
 
 kind_true : (c : Bool) (m n k : TokenKind) → c ≡ true → m ≡ k → cond c m n ≡ k
@@ -55,7 +55,7 @@ shape_kind : (w : List ℕ) → Shape w → scanned_kind w ≡ kind_of w
 shape_kind w (plain h) = word_scanned w h ∙ sym (word_kind w h)
 shape_kind w (raw x e h n) = subst (λ w. scanned_kind w ≡ kind_of w) (sym e) (sym (raw_kind x h n))
 shape_kind w (digits h) = number_scanned w h ∙ sym (number_kind w h)
-shape_kind w (text e) = subst (λ w. scanned_kind w ≡ kind_of w) (sym e) refl
+shape_kind w (quoted e) = subst (λ w. scanned_kind w ≡ kind_of w) (sym e) refl
 shape_kind w (single b e h) = subst (λ w. scanned_kind w ≡ kind_of w) (sym e) (each_mark (λ b. scanned_kind (b ∷ []) ≡ kind_of (b ∷ [])) b (refl, (refl, (refl, (refl, (refl, (refl, (refl, (refl, tt)))))))) h)
 
 pub kind_scanned : (w : List ℕ) → is_spelling w ≡ true → scanned_kind w ≡ kind_of w

@@ -1,5 +1,5 @@
 -- One step of a text: trivia, or a token.
-use Rattle.std.proofs.Common.{◌≡◌, ◌≢◌, ℕ, suc, zero, ◌+◌, ◌<◌, ◌≤◌, Bool, true, false, ◌&&◌, ◌||◌, List, [], ◌∷◌, ◌++◌, length, take, drop, codes, refl, subst, sym, ap, ◌∙◌, arith, length-append, append_assoc}
+use Rattle.std.proofs.Common.{◌≡◌, inl, ℕ, suc, zero, ◌+◌, ◌<◌, ◌≤◌, Bool, true, false, ◌&&◌, ◌||◌, List, [], ◌∷◌, ◌++◌, length, take, drop, codes, refl, subst, sym, ap, ◌∙◌, arith, length-append, append_assoc}
 use Rattle.std.specs.Prelude.{nat_eq}
 use Rattle.std.specs.List.{list_all}
 use Rattle.std.proofs.lemmas.Bool.Decides.{nat_tests}
@@ -7,11 +7,11 @@ use Rattle.std.proofs.lemmas.List.{take_at, drop_at}
 use Rattle.std.proofs.lemmas.List.Folds.{list_all-append}
 use Rattle.em_base.specs.declared.edition.Edition.{Edition}
 use Rattle.em_base.specs.declared.token.Token.{Token}
-use Rattle.em_lex.specs.Spelling.{is_trivia, is_digit, is_word_start, is_spelling, is_reserved, IsLongest}
-use Rattle.em_lex.specs.Scan.{is_mark, scanned_len}
+use Rattle.em_lex.specs.Spelling.{is_trivia, is_digit, is_word_start, is_spelling, IsLongest}
+use Rattle.em_lex.specs.Scan.{is_mark, starts, scanned_len}
 use Rattle.em_lex.specs.Lexing.{Lexes, Begins, token_at}
-use Rattle.em_lex.proofs.Shapes.{impossible, and_cases, both, or_left, Shape, plain, raw, digits, text, single, shape_of}
-use Rattle.em_lex.proofs.Longest.{starts, word_starts, number_starts, not_both}
+use Rattle.em_lex.proofs.Shapes.{impossible, and_cases, both, Shape, plain, raw, digits, quoted, single, shape_of}
+use Rattle.em_lex.proofs.Longest.{word_starts, number_starts, not_both}
 use Rattle.em_lex.proofs.Found.{longest_scanned}
 
 trivia_word : (b : ℕ) → is_word_start b ≡ true → is_trivia b ≡ true → ⊥
@@ -38,7 +38,7 @@ shape_first : (w : List ℕ) → Shape w → First w
 shape_first w (plain h) = first_of is_word_start trivia_word w (word_starts w h)
 shape_first w (raw x e h n) = record { byte = 114; rest = 35 ∷ x; parts = e; solid = refl }
 shape_first w (digits h) = first_of is_digit trivia_digit w (number_starts w h)
-shape_first w (text e) = record { byte = 34; rest = 123 ∷ 125 ∷ 34 ∷ []; parts = e; solid = refl }
+shape_first w (quoted e) = record { byte = 34; rest = 123 ∷ 125 ∷ 34 ∷ []; parts = e; solid = refl }
 shape_first w (single b e h) = record { byte = b; rest = []; parts = e; solid = not_both _ (λ k. trivia_mark b h k) }
 
 -- a spelling begins with no trivia
@@ -137,8 +137,8 @@ no_gap (c ∷ gap) y s e f h = let same : c ≡ f.byte = let p = f.parts in cc i
 -- longest spellings at the front of one text are one
 same_len : (w rest v more : List ℕ) → w ++ rest ≡ v ++ more → IsLongest (w ++ rest) w → IsLongest (v ++ more) v → length w ≡ length v
 same_len w rest v more e l k =
-    let a = l.longest v more e (or_left (is_spelling v) _ k.spelling) in
-    let b = k.longest w rest (sym e) (or_left (is_spelling w) _ l.spelling) in omega (arith, a, b)
+    let a = l.longest v more e (inl k.spelling) in
+    let b = k.longest w rest (sym e) (inl l.spelling) in omega (arith, a, b)
 
 same_front : (w rest v more : List ℕ) → w ++ rest ≡ v ++ more → length w ≡ length v → v ≡ w
 same_front w rest v more e n = sym (take_at v more (length w) (sym n)) ∙ ap (take (length w)) (sym e) ∙ take_at w rest (length w) refl

@@ -1,5 +1,5 @@
 -- The spellings of tokens (Reference, "Tokens" and "Identifiers"), as far as they are built.
-use Rattle.std.specs.Prelude.{◌≡◌, ◌≤◌, ℕ, Bool, true, false, not, ◌&&◌, ◌||◌, ◌==◌, nat_le, nat_eq, List, [], ◌∷◌, ◌++◌, length, drop, codes}
+use Rattle.std.specs.Prelude.{◌≡◌, ◌≤◌, ◌⊎◌, ℕ, Bool, true, false, not, ◌&&◌, ◌||◌, ◌==◌, nat_le, nat_eq, List, [], ◌∷◌, ◌++◌, length, drop, codes}
 use Rattle.std.specs.List.{starts_with, list_all, list_any}
 use Rattle.std.specs.Str.{bytes_eq}
 
@@ -32,10 +32,6 @@ is_never_raw w = list_any (bytes_eq w) never_raw
 abbrev pub is_raw_word : List ℕ → Bool
 is_raw_word w = starts_with nat_eq w (codes "r#") && (is_word (drop 2 w) && not (is_never_raw (drop 2 w)))
 
--- a reserved form: `r#` and a word of which there is no raw form (Reference, "Identifiers", raw identifiers)
-abbrev pub is_reserved : List ℕ → Bool
-is_reserved w = starts_with nat_eq w (codes "r#") && is_never_raw (drop 2 w)
-
 -- one decimal digit or more
 abbrev pub is_number : List ℕ → Bool
 is_number [] = false
@@ -57,7 +53,19 @@ punctuation = codes "=" ∷ codes ";" ∷ codes "!" ∷ codes "," ∷ []
 abbrev pub is_spelling : List ℕ → Bool
 is_spelling w = is_word w || (is_raw_word w || (is_number w || (is_literal w || (list_any (bytes_eq w) opening || (list_any (bytes_eq w) closing || list_any (bytes_eq w) punctuation)))))
 
--- a spelling at the front of a text than which no spelling and no reserved form there is longer
+-- the punctuation that goes on behind a built one
+abbrev pub compound : List (List ℕ)
+compound = codes "==" ∷ codes "!=" ∷ []
+
+-- a form that begins with a spelling and is a token that is not built, or reserved (Reference, "Tokens"): `r#` and a word
+-- that has no raw form, a literal with a suffix, a word with a `"` directly behind it, and compound punctuation
+pub data Unbuilt (v : List ℕ) : Type 0 where
+  reserved : (x : List ℕ) → v ≡ codes "r#" ++ x → is_never_raw x ≡ true → Unbuilt v
+  suffixed : (x y : List ℕ) → v ≡ x ++ y → (is_number x || is_literal x) ≡ true → is_word y ≡ true → Unbuilt v
+  prefixed : (x : List ℕ) → v ≡ x ++ codes "\"" → is_word x ≡ true → Unbuilt v
+  longer : list_any (bytes_eq v) compound ≡ true → Unbuilt v
+
+-- a spelling at the front of a text than which no spelling and no unbuilt form there is longer
 pub record IsLongest (text w : List ℕ) : Type 0 where
   pub spelling : is_spelling w ≡ true
-  pub longest : (v rest : List ℕ) → text ≡ v ++ rest → (is_spelling v || is_reserved v) ≡ true → length v ≤ length w
+  pub longest : (v rest : List ℕ) → text ≡ v ++ rest → (is_spelling v ≡ true) ⊎ Unbuilt v → length v ≤ length w

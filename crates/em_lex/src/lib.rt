@@ -2,10 +2,10 @@
 #![tactic(auto)]
 
 mod counter;
-//mod laws;
+mod laws;
 mod lexer;
 mod spelling;
 
 pub use counter::Lexings;
-//pub use laws::{lexing_is_one, marked_text_lexes, tokens_lie_in_text};
+pub use laws::{lexing_is_one, marked_text_lexes, tokens_lie_in_text};
 pub use lexer::{LexError, LexKind, lex};

@@ -2,7 +2,7 @@ ghost use Rattle.std.specs.Prelude.{◌≡◌, ◌+◌, ◌≤◌, length, take,
 ghost use Rattle.std.specs.List.{prefix_len};
 ghost use Rattle.std.specs.Str.{IsAscii};
 ghost use Rattle.em_lex.specs.Spelling.{is_trivia, is_digit, is_word_start, is_word_byte, is_never_raw};
-ghost use Rattle.em_lex.specs.Scan.{is_mark, starts_raw, raw_len, word_len, identifier_of, scanned_len, scanned_kind};
+ghost use Rattle.em_lex.specs.Scan.{is_mark, is_compound_start, is_quote, is_equals, starts, starts_raw, raw_len, plain_len, number_len, literal_len, word_len, identifier_of, scanned_len, scanned_kind};
 
 use em_base::{Name, NoMemory, TokenKind, between, rest_from};
 use std::alloc::Global;
@@ -85,6 +85,36 @@ fn never_raw(word: &[u8]) -> bool
         || word == b"Self".as_slice()
 }
 
+/// Whether a word stands at the front.
+fn begins_word(text: &[u8]) -> bool
+    ensures { result ≡ starts is_word_start text.now }
+{
+    match text.first() {
+        Some(byte) => starts_word(*byte),
+        None => false,
+    }
+}
+
+/// Whether a `"` stands at the front.
+fn begins_quote(text: &[u8]) -> bool
+    ensures { result ≡ starts is_quote text.now }
+{
+    match text.first() {
+        Some(byte) => b'"' == *byte,
+        None => false,
+    }
+}
+
+/// Whether a `=` stands at the front.
+fn begins_equals(text: &[u8]) -> bool
+    ensures { result ≡ starts is_equals text.now }
+{
+    match text.first() {
+        Some(byte) => b'=' == *byte,
+        None => false,
+    }
+}
+
 /// Whether `r#` and a word stand at the front.
 fn begins_raw(text: &[u8]) -> bool
     ensures { result ≡ starts_raw text.now }
@@ -92,10 +122,7 @@ fn begins_raw(text: &[u8]) -> bool
     if !text.starts_with(b"r#") {
         return false;
     }
-    match text[2..].first() {
-        Some(byte) => starts_word(*byte),
-        None => false,
-    }
+    begins_word(rest_from(text, 2))
 }
 
 /// The length of `r#` and the word behind it, and 0 where that word has no raw form.
@@ -111,6 +138,42 @@ fn raw_run(behind: &[u8]) -> usize
     }
 }
 
+/// The length of a word, and 0 where a `"` follows it: that is a literal with a prefix, or reserved.
+fn plain_run(text: &[u8]) -> usize
+    ensures run { result ≡ plain_len text.now }
+    ensures within { result ≤ length text.now }
+{
+    let len = word_run(text);
+    if begins_quote(rest_from(text, len)) { 0 } else { len }
+}
+
+/// The length of a number, and 0 where a word follows it: that is a literal with a suffix or of another form.
+fn number_run(text: &[u8]) -> usize
+    ensures run { result ≡ number_len text.now }
+    ensures within { result ≤ length text.now }
+{
+    let len = digit_run(text);
+    if begins_word(rest_from(text, len)) { 0 } else { len }
+}
+
+/// The length of the string literal, and 0 where it isn't there or has a suffix.
+fn literal_run(text: &[u8]) -> usize
+    ensures run { result ≡ literal_len text.now }
+    ensures within { result ≤ length text.now }
+{
+    if !text.starts_with(b"\"{}\"") {
+        return 0;
+    }
+    if begins_word(rest_from(text, 4)) { 0 } else { 4 }
+}
+
+/// Whether a byte begins compound punctuation, where a `=` follows.
+fn starts_compound(byte: u8) -> bool
+    ensures { result ≡ is_compound_start byte }
+{
+    byte == b'=' || byte == b'!'
+}
+
 /// The length of the longest spelling at the front, and 0 where there is none.
 fn spelled_run(text: &[u8]) -> usize
     ensures run { result ≡ scanned_len text.now }
@@ -123,15 +186,16 @@ fn spelled_run(text: &[u8]) -> usize
         if begins_raw(text) {
             return raw_run(&text[2..]);
         }
-        return word_run(text);
+        return plain_run(text);
     }
     if is_digit_byte(*first) {
-        return digit_run(text);
+        return number_run(text);
     }
     if is_mark_byte(*first) {
-        return 1;
+        let compound = starts_compound(*first) && begins_equals(rest_from(text, 1));
+        return if compound { 0 } else { 1 };
     }
-    if text.starts_with(b"\"{}\"") { 4 } else { 0 }
+    literal_run(text)
 }
 
 /// The longest spelling at the front, and nothing where there is none.
