@@ -58,8 +58,8 @@ is_file sources taken all fit same order f text lt is =
     let source = slice_get_read sources (length sources) f text refl lt is in
     record {
       order = in_order f 0 (length text) (filter (in_file f) all)
-        (λ k d lt'. is_range sources f text (get_or (filter (in_file f) all) k d) source (filter_passes (in_file f) all k d lt') (All-filter (in_file f) (LiesIn sources) all lie k d lt'))
-        (AllPairs-filter StartsNoLater (in_file f) all order) (AllPairs-filter Apart (in_file f) all apart) (λ k d lt'. omega arith) (omega arith);
+          (λ k d lt'. is_range sources f text (get_or (filter (in_file f) all) k d) source (filter_passes (in_file f) all k d lt') (All-filter (in_file f) (LiesIn sources) all lie k d lt'))
+          (AllPairs-filter StartsNoLater (in_file f) all order) (AllPairs-filter Apart (in_file f) all apart) (λ k d lt'. omega arith) (omega arith);
       made = sym (edited_on-permutation f (all_parts taken) all same fit.apart 0 text);
     }
 
@@ -122,10 +122,10 @@ next_file sources taken refs fit all f at count text lt is le left counted =
 pub next_step : (sources files : List (List ℕ)) (taken : List Suggestion) (refs rest : List (Bor Part)) → AreApplicable sources taken → Ordered taken refs → (f index at count : ℕ) (text : List ℕ) → files ≡ sources → index < length files → text ≡ get_or files index text → at ≤ length refs → map (λ r. r.now) (drop at refs) ≡ filter (from_file index) (map (λ r. r.now) refs) → f ≡ index → rest ≡ drop at refs → count ≡ prefix_len (λ r. eqb r.now.span.file f) rest → NextFile taken refs index at count text
 next_step sources files taken refs rest fit all f index at count text same lt is le left e cut counted =
     next_file sources taken refs fit all index at count text
-      (subst (λ (fs : List (List ℕ)). index < length fs) same lt)
-      (is ∙ ap (λ (fs : List (List ℕ)). get_or fs index text) same)
-      le left
-      (counted ∙ (ap (λ (n : ℕ). prefix_len (λ (r : Bor Part). eqb r.now.span.file n) rest) e ∙ ap (λ (rs : List (Bor Part)). prefix_len (λ (r : Bor Part). eqb r.now.span.file index) rs) cut))
+    (subst (λ (fs : List (List ℕ)). index < length fs) same lt)
+    (is ∙ ap (λ (fs : List (List ℕ)). get_or fs index text) same)
+    le left
+    (counted ∙ (ap (λ (n : ℕ). prefix_len (λ (r : Bor Part). eqb r.now.span.file n) rest) e ∙ ap (λ (rs : List (Bor Part)). prefix_len (λ (r : Bor Part). eqb r.now.span.file index) rs) cut))
 
 -- the texts from a file on are the next one's and those behind it
 pub edited_more : (f : ℕ) (taken : List Suggestion) (sources files : List (List ℕ)) (text : List ℕ) → files ≡ sources → f < length files → text ≡ get_or files f text → edited_from f taken (drop f sources) ≡ edited f taken text ∷ edited_from (f + 1) taken (drop (f + 1) sources)

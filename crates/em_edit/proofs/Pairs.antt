@@ -53,5 +53,5 @@ two_swapped R f g n a b h a_in b_in s i j ne i_in j_in =
     rw (p.1, q.1) r
 
 pub AllPairs-permutation : {X : Type 0} (R : X → X → Type 0) → ((x y : X) → R x y → R y x) → (xs ys : List X) → IsPermutation xs ys → AllPairs R xs → AllPairs R ys
-AllPairs-permutation R turn xs ys same h = IsPermutation-keeps xs (λ l. AllPairs R l) h (λ l a b a_in b_in p i j d lt l'. 
+AllPairs-permutation R turn xs ys same h = IsPermutation-keeps xs (λ l. AllPairs R l) h (λ l a b a_in b_in p i j d lt l'.
     two_swapped R (λ k. get_or l k d) (λ k. get_or (swap l a b) k d) (length l) a b (λ i j ne i_in j_in. each_two R turn l p i j d ne i_in j_in) a_in b_in (swapped_from_swap l (swap l a b) a b d a_in b_in refl) i j (λ e. omega arith) (omega (arith, length-swap l a b)) (omega (arith, length-swap l a b))) ys same

@@ -48,7 +48,7 @@ next_made new at refs i r text lt is order =
     let far : at + (r.now.span.end - at) ≡ r.now.span.end = omega (arith, next.0, next.1) in
     let rest : drop (r.now.span.end - at) (drop at text) ≡ drop r.now.span.end text = drop-drop (r.now.span.end - at) at text ∙ ap (λ (n : ℕ). drop n text) far in
     let whole : edited_on (map (λ r. r.now) (drop i refs)) at (drop at text) ≡ take (r.now.span.start - at) (drop at text) ++ (r.now.text ++ edited_on (map (λ r. r.now) (drop (i + 1) refs)) r.now.span.end (drop r.now.span.end text)) =
-        ap (λ (ps : List Part). edited_on ps at (drop at text)) (next_item refs i r lt is) ∙ (step ∙ ap (λ (ys : List ℕ). take (r.now.span.start - at) (drop at text) ++ (r.now.text ++ edited_on (map (λ r. r.now) (drop (i + 1) refs)) r.now.span.end ys)) rest) in
+    ap (λ (ps : List Part). edited_on ps at (drop at text)) (next_item refs i r lt is) ∙ (step ∙ ap (λ (ys : List ℕ). take (r.now.span.start - at) (drop at text) ++ (r.now.text ++ edited_on (map (λ r. r.now) (drop (i + 1) refs)) r.now.span.end ys)) rest) in
     grouped new (take (r.now.span.start - at) (drop at text)) r.now.text (edited_on (map (λ r. r.now) (drop (i + 1) refs)) r.now.span.end (drop r.now.span.end text)) ∙ ap (λ (ys : List ℕ). new ++ ys) (sym whole)
 
 -- behind the last part the text stays

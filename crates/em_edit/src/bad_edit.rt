@@ -1,5 +1,3 @@
-
-
 /// Why suggestions can't be applied.
 #[derive(Clone, Copy, Debug, PartialEq, Eq)]
 pub enum BadEdit {

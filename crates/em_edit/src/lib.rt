@@ -5,6 +5,8 @@ mod application;
 mod bad_edit;
 mod laws;
 mod order;
+#[cfg(test)]
+mod tests;
 
 pub use application::apply;
 pub use bad_edit::BadEdit;

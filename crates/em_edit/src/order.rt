@@ -20,10 +20,7 @@ fn parts_of<'a>(alloc: Global, taken: &'a [Suggestion]) -> Result<Vec<&'a Part>,
 }
 
 /// All parts of suggestions in the order of (file, start).
-pub fn ordered_parts<'a>(
-    alloc: Global,
-    taken: &'a [Suggestion],
-) -> Result<Vec<&'a Part>, NoMemory>
+pub fn ordered_parts<'a>(alloc: Global, taken: &'a [Suggestion]) -> Result<Vec<&'a Part>, NoMemory>
     ensures same { IfOk result (λ v. IsPermutation (all_parts taken.now) (map (λ p. p.now) v.items)) }
     ensures order { IfOk result (λ v. AllPairs StartsNoLater (map (λ p. p.now) v.items)) }
 {
