@@ -1,5 +1,8 @@
-ghost use Rattle.em_first.specs.Laws.{KeepsCore, KeepsEvents, NothingLeft, OneCore};
+ghost use Rattle.em_first.specs.Laws.{EditedLexes, FindingsFit, KeepsCore, KeepsEvents, NothingLeft, OneCore};
 ghost use Rattle.em_first.specs.Sample.{HasSample, KeepsSample, SampleBegins, SamplePrints};
+
+use em_edit::{first_part_first, no_part_keeps};
+use em_lex::{marked_text_lexes, tokens_lie_in_text};
 
 /// A program of 2015 is one of 2018 with the same statements where the words that 2018 takes are raw.
 #[tactic(auto, using(crate::proofs::Keeps::keeps_core))]
@@ -17,6 +20,23 @@ pub fn core_is_one()
 pub fn nothing_is_left()
     ensures { NothingLeft }
 {}
+
+/// The findings of a text can be applied to it.
+pub fn findings_fit()
+    ensures { FindingsFit }
+{
+    tokens_lie_in_text();
+}
+
+/// The text after the findings has the moved tokens.
+pub fn edited_text_lexes()
+    ensures { EditedLexes }
+{
+    no_part_keeps();
+    first_part_first();
+    marked_text_lexes();
+    tokens_lie_in_text();
+}
 
 /// Both programs print the same, after any number of statements.
 pub fn events_are_kept()

@@ -8,7 +8,10 @@ mod words;
 
 pub use findings::keyword_findings;
 pub use form::is_first_form;
-pub use laws::{a_sample, core_is_kept, core_is_one, events_are_kept, nothing_is_left};
+pub use laws::{
+    a_sample, core_is_kept, core_is_one, edited_text_lexes, events_are_kept, findings_fit,
+    nothing_is_left,
+};
 
 #[cfg(test)]
 mod tests;
