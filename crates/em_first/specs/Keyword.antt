@@ -3,7 +3,6 @@ use Rattle.std.specs.Prelude.{ℕ, Bool, List, [], ◌∷◌, ◌++◌, codes, f
 use Rattle.std.specs.List.{list_any}
 use Rattle.std.specs.Str.{bytes_eq}
 use Rattle.em_base.specs.declared.edit.Lint.TheVariants.{Keyword}
-use Rattle.em_base.specs.declared.edit.Part.{Part}
 use Rattle.em_base.specs.declared.edit.Suggestion.{Suggestion}
 use Rattle.em_base.specs.declared.token.Token.{Token}
 
