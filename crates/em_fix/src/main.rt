@@ -10,8 +10,12 @@ mod source;
 mod status;
 mod words;
 
+use crate::fix::fix;
+use crate::lines::tell;
+use crate::status::{Status, code};
 use em_base::{List, Text};
 use em_disk::{FolderFiles, StdoutSink};
+use std::io::ErrorKind;
 use std::process::ExitCode;
 use std::{env, io};
 
@@ -24,16 +28,26 @@ fn words_of(rt: &HostRuntime) -> io::Result<List<Text>> {
     Ok(List::from_vec(words))
 }
 
+/// Why there are no words: memory was short, or they are no text.
+fn refusal_of(error: &io::Error) -> Status {
+    match error.kind() {
+        ErrorKind::OutOfMemory => Status::NoMemory,
+        _ => Status::Usage,
+    }
+}
+
 fn main(rt: HostRuntime) -> ExitCode {
-    // Words that are no text are none that the program takes.
-    let words = match words_of(&rt) {
-        Ok(words) => words,
-        Err(_) => List::new(rt.alloc()),
-    };
     let mut files = FolderFiles::new(&rt);
     let mut out = StdoutSink::new(&rt);
-    let status = fix::fix(rt.alloc(), &words, &mut files, &mut out);
-    ExitCode::from(status::code(&status))
+    let status = match words_of(&rt) {
+        Ok(words) => fix(rt.alloc(), &words, &mut files, &mut out),
+        Err(error) => {
+            let status = refusal_of(&error);
+            tell(&mut out, &status);
+            status
+        }
+    };
+    ExitCode::from(code(&status))
 }
 
 #[cfg(test)]
