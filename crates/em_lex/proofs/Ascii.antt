@@ -1,11 +1,11 @@
 -- Spellings and trivia are ASCII.
-use Rattle.std.proofs.Common.{◌≡◌, ℕ, suc, zero, ◌<◌, Bool, true, false, List, [], ◌∷◌, ◌++◌, drop, codes, refl, subst, sym, arith, lit<}
+use Rattle.std.proofs.Common.{◌≡◌, ℕ, suc, zero, ◌<◌, Bool, true, List, [], ◌∷◌, drop, codes, subst, sym, arith, lit<}
 use Rattle.std.specs.List.{list_all}
 use Rattle.std.specs.Str.{IsAscii}
 use Rattle.std.proofs.lemmas.Bool.Decides.{nat_tests}
 use Rattle.std.proofs.lemmas.Str.{IsAscii-drop}
 use Rattle.std.proofs.lemmas.Str.Ascii.{IsAscii-nil}
-use Rattle.em_lex.specs.Spelling.{is_trivia, is_digit, is_word_byte, is_word, is_spelling}
+use Rattle.em_lex.specs.Spelling.{is_trivia, is_digit, is_word_byte, is_spelling}
 use Rattle.em_lex.specs.Scan.{is_mark}
 use Rattle.em_lex.proofs.Shapes.{and_cases, Shape, plain, raw, digits, quoted, single, shape_of}
 use Rattle.em_lex.proofs.Fronts.{word_bytes, number_bytes}

@@ -1,11 +1,11 @@
 -- What the scan finds is a spelling with which the rest does not go on.
-use Rattle.std.proofs.Common.{◌≡◌, inl, inr, ℕ, suc, zero, ◌+◌, ◌<◌, ◌≤◌, Bool, true, false, cond, ◌&&◌, ◌||◌, List, [], ◌∷◌, ◌++◌, length, take, drop, codes, refl, subst, sym, ap, ◌∙◌, arith}
+use Rattle.std.proofs.Common.{◌≡◌, inl, inr, ℕ, suc, zero, ◌+◌, ◌<◌, Bool, true, false, cond, ◌&&◌, List, [], ◌∷◌, ◌++◌, length, take, drop, codes, refl, subst, sym, ap, ◌∙◌, arith}
 use Rattle.std.specs.Prelude.{nat_eq}
 use Rattle.std.specs.List.{prefix_len, starts_with, list_all}
 use Rattle.std.proofs.lemmas.Bool.Decides.{Decides-eqb}
 use Rattle.std.proofs.lemmas.List.{take_at, take-append-drop}
 use Rattle.std.proofs.lemmas.Slice.Eq.{starts_is}
-use Rattle.em_lex.specs.Spelling.{is_digit, is_word_start, is_word_byte, is_word, is_never_raw, is_number, is_spelling, IsLongest}
+use Rattle.em_lex.specs.Spelling.{is_digit, is_word_start, is_word_byte, is_word, is_never_raw, is_number, IsLongest}
 use Rattle.em_lex.specs.Scan.{is_mark, is_compound_start, is_quote, is_equals, starts, unless, word_len, starts_raw, raw_len, plain_len, number_len, literal_len, scanned_len}
 use Rattle.em_lex.proofs.Shapes.{impossible, by_test, and_cases, both, or_left, or_cases, hash_front}
 use Rattle.em_lex.proofs.Fronts.{Stops, Front, front_word, front_raw, front_number, front_literal, front_mark, longest_front}

@@ -1,12 +1,11 @@
 -- A spelling at the front of a text is the longest one exactly where what follows does not go on with it.
-use Rattle.std.proofs.Common.{◌≡◌, ◌⊎◌, inl, inr, ℕ, suc, zero, ◌+◌, ◌<◌, ◌≤◌, Bool, true, false, cond, ◌&&◌, ◌||◌, not, List, [], ◌∷◌, ◌++◌, length, take, drop, codes, refl, subst, sym, ap, ◌∙◌, arith, length-append, append_assoc}
+use Rattle.std.proofs.Common.{◌≡◌, ◌⊎◌, inl, inr, ℕ, ◌+◌, ◌≤◌, Bool, true, false, cond, ◌&&◌, List, [], ◌∷◌, ◌++◌, length, drop, codes, refl, subst, sym, ap, ◌∙◌, arith, length-append, append_assoc}
 use Rattle.std.specs.Prelude.{nat_eq}
-use Rattle.std.specs.List.{prefix_len, starts_with, list_all, list_any}
-use Rattle.std.proofs.lemmas.Bool.Decides.{nat_tests, Decides-eqb}
-use Rattle.std.proofs.lemmas.List.{take_at, drop_at}
-use Rattle.em_lex.specs.Spelling.{is_trivia, is_digit, is_word_start, is_word_byte, is_word, is_never_raw, is_literal, is_number, is_spelling, Unbuilt, suffixed, prefixed, IsLongest}
-use Rattle.em_lex.specs.Scan.{is_mark, is_compound_start, is_quote, is_equals, starts, word_len, starts_raw}
-use Rattle.em_lex.proofs.Shapes.{impossible, by_test, and_cases, both, or_cases, or_left, or_right, Form, word, hashed, number, literal, mark, Shape, plain, raw, digits, quoted, single, hash_front, shape_of, form_of, shape_spelled, word_spelled, number_spelled, hashed_form, compound_form}
+use Rattle.std.specs.List.{prefix_len, starts_with, list_all}
+use Rattle.std.proofs.lemmas.Bool.Decides.{Decides-eqb}
+use Rattle.em_lex.specs.Spelling.{is_digit, is_word_start, is_word_byte, is_word, is_never_raw, is_literal, is_number, is_spelling, Unbuilt, suffixed, prefixed, IsLongest}
+use Rattle.em_lex.specs.Scan.{is_mark, is_compound_start, is_quote, is_equals, starts, starts_raw}
+use Rattle.em_lex.proofs.Shapes.{impossible, by_test, and_cases, both, or_cases, or_left, or_right, Shape, plain, raw, digits, quoted, single, hash_front, shape_of, word_spelled, number_spelled, hashed_form, compound_form}
 
 -- no byte of the class at the front
 abbrev pub Stops : (ℕ → Bool) → List ℕ → Type 0

@@ -1,13 +1,11 @@
 -- What does not go on behind a spelling leaves it the longest, and the scan finds it.
-use Rattle.std.proofs.Common.{◌≡◌, ℕ, suc, zero, ◌+◌, ◌<◌, ◌≤◌, Bool, true, false, cond, ◌&&◌, ◌||◌, List, [], ◌∷◌, ◌++◌, length, take, drop, codes, refl, subst, sym, ap, ◌∙◌, arith, length-append, append_assoc}
-use Rattle.std.specs.Prelude.{nat_eq}
-use Rattle.std.specs.List.{prefix_len, starts_with, list_all}
-use Rattle.std.proofs.lemmas.Bool.Decides.{nat_tests, Decides-eqb}
+use Rattle.std.proofs.Common.{◌≡◌, ℕ, ◌+◌, ◌≤◌, Bool, true, false, cond, ◌&&◌, List, [], ◌∷◌, ◌++◌, length, take, drop, codes, refl, subst, sym, ap, ◌∙◌, arith, length-append, append_assoc}
+use Rattle.std.specs.List.{prefix_len, list_all}
+use Rattle.std.proofs.lemmas.Bool.Decides.{nat_tests}
 use Rattle.std.proofs.lemmas.List.{take_at, drop_at, append_cancel_left}
-use Rattle.std.proofs.lemmas.Slice.Eq.{starts_is}
-use Rattle.em_lex.specs.Spelling.{is_trivia, is_digit, is_word_start, is_word_byte, is_word, is_never_raw, is_number, is_spelling, IsLongest}
-use Rattle.em_lex.specs.Scan.{is_mark, is_compound_start, is_quote, is_equals, starts, unless, word_len, starts_raw, raw_len, plain_len, number_len, literal_len, scanned_len}
-use Rattle.em_lex.proofs.Shapes.{impossible, by_test, and_cases, both, or_left, or_right, Form, word, hashed, number, literal, mark, number_word, literal_word, word_quote, mark_equals, Shape, plain, raw, digits, quoted, single, hash_front, form_of, shape_spelled}
+use Rattle.em_lex.specs.Spelling.{is_digit, is_word_start, is_word_byte, is_word, is_never_raw, is_number, IsLongest}
+use Rattle.em_lex.specs.Scan.{is_mark, is_compound_start, is_quote, is_equals, starts, word_len, starts_raw, scanned_len}
+use Rattle.em_lex.proofs.Shapes.{impossible, by_test, and_cases, or_left, or_right, Form, word, hashed, number, literal, mark, number_word, literal_word, word_quote, mark_equals, Shape, plain, raw, digits, quoted, single, form_of, shape_spelled}
 use Rattle.em_lex.proofs.Fronts.{Stops, Front, front_word, front_raw, front_number, front_literal, front_mark, run_ends, no_longer, word_bytes, number_bytes}
 
 pub starts_more : (p : ℕ → Bool) (w u : List ℕ) → starts p w ≡ true → starts p (w ++ u) ≡ true
@@ -112,7 +110,6 @@ word_case w u v rest e h s q n (hashed x is k) = impossible (sym n ∙ ap starts
 word_case w u v rest e h s q n (number k) = absurd (clash is_word_start is_digit word_digit (w ++ u) (v ++ rest) e (starts_more is_word_start w u (word_starts w h)) (starts_more is_digit v rest (number_starts v k)))
 word_case w u v rest e h s q n (literal is) = absurd (clash is_quote is_word_start quote_word (v ++ rest) (w ++ u) (sym e) (subst (λ v. starts is_quote (v ++ rest) ≡ true) (sym is) refl) (starts_more is_word_start w u (word_starts w h)))
 word_case w u v rest e h s q n (mark b is k) = let a = some_starts is_word_start w (word_starts w h) in let l = word_form v b is in omega (arith, a, l)
-
 word_case w u v rest e h s q n (number_word x y is k m) = absurd (clash is_word_start is_digit word_digit (w ++ u) (v ++ rest) e (starts_more is_word_start w u (word_starts w h)) (part_starts is_digit v x y rest is (number_starts x k)))
 word_case w u v rest e h s q n (literal_word y is k) = absurd (clash is_quote is_word_start quote_word (v ++ rest) (w ++ u) (sym e) (subst (λ v. starts is_quote (v ++ rest) ≡ true) (sym is) refl) (starts_more is_word_start w u (word_starts w h)))
 word_case w u v rest e h s q n (word_quote x is k) =
@@ -139,7 +136,6 @@ raw_case x u v rest e h s (hashed y is k) =
 raw_case x u v rest e h s (number k) = absurd (clash is_word_start is_digit word_digit (114 ∷ 35 ∷ (x ++ u)) (v ++ rest) e refl (starts_more is_digit v rest (number_starts v k)))
 raw_case x u v rest e h s (literal is) = absurd (clash is_quote is_word_start quote_word (v ++ rest) (114 ∷ 35 ∷ (x ++ u)) (sym e) (subst (λ v. starts is_quote (v ++ rest) ≡ true) (sym is) refl) refl)
 raw_case x u v rest e h s (mark b is k) = let l = word_form v b is in omega (arith, l)
-
 raw_case x u v rest e h s (number_word y z is k m) = absurd (clash is_word_start is_digit word_digit (114 ∷ 35 ∷ (x ++ u)) (v ++ rest) e refl (part_starts is_digit v y z rest is (number_starts y k)))
 raw_case x u v rest e h s (literal_word y is k) = absurd (clash is_quote is_word_start quote_word (v ++ rest) (114 ∷ 35 ∷ (x ++ u)) (sym e) (subst (λ v. starts is_quote (v ++ rest) ≡ true) (sym is) refl) refl)
 raw_case x u v rest e h s (word_quote y is k) =
@@ -155,7 +151,6 @@ number_case w u v rest e h s (hashed x is k) = absurd (clash is_word_start is_di
 number_case w u v rest e h s (number k) = no_longer is_digit v rest w u e (number_bytes w h) (digit_stops u s) (number_bytes v k)
 number_case w u v rest e h s (literal is) = absurd (clash is_quote is_digit quote_digit (v ++ rest) (w ++ u) (sym e) (subst (λ v. starts is_quote (v ++ rest) ≡ true) (sym is) refl) (starts_more is_digit w u (number_starts w h)))
 number_case w u v rest e h s (mark b is k) = let a = some_starts is_digit w (number_starts w h) in let l = word_form v b is in omega (arith, a, l)
-
 number_case w u v rest e h s (number_word x y is k m) =
     let parts : w ++ u ≡ x ++ (y ++ rest) = e ∙ ap (λ v. v ++ rest) is ∙ append_assoc x y rest in
     let behind : u ≡ y ++ rest = same_run is_digit w u x (y ++ rest) parts (number_bytes w h) (number_bytes x k) (digit_stops u s) (word_no_digit y rest m) in
@@ -170,7 +165,6 @@ literal_case w u v rest e is s (hashed x k h) = absurd (clash is_quote is_word_s
 literal_case w u v rest e is s (number k) = absurd (clash is_quote is_digit quote_digit (w ++ u) (v ++ rest) e (subst (λ w. starts is_quote (w ++ u) ≡ true) (sym is) refl) (starts_more is_digit v rest (number_starts v k)))
 literal_case w u v rest e is s (literal k) = let a : length v ≡ length w = ap length (k ∙ sym is) in omega (arith, a)
 literal_case w u v rest e is s (mark b k h) = let a : length w ≡ 4 = ap length is in let l = word_form v b k in omega (arith, a, l)
-
 literal_case w u v rest e is s (number_word x y k n h) = absurd (clash is_quote is_digit quote_digit (w ++ u) (v ++ rest) e (subst (λ w. starts is_quote (w ++ u) ≡ true) (sym is) refl) (part_starts is_digit v x y rest k (number_starts x n)))
 literal_case w u v rest e is s (literal_word y k h) =
     let parts : codes "\"{}\"" ++ u ≡ codes "\"{}\"" ++ (y ++ rest) = ap (λ w. w ++ u) (sym is) ∙ e ∙ ap (λ v. v ++ rest) k ∙ append_assoc (codes "\"{}\"") y rest in
@@ -184,7 +178,6 @@ mark_case w u v rest b e is m d (hashed x k h) = absurd (clash is_word_start is_
 mark_case w u v rest b e is m d (number k) = absurd (clash is_digit is_mark digit_mark (v ++ rest) (w ++ u) (sym e) (starts_more is_digit v rest (number_starts v k)) (subst (λ w. starts is_mark (w ++ u) ≡ true) (sym is) m))
 mark_case w u v rest b e is m d (literal k) = absurd (clash is_quote is_mark quote_mark (v ++ rest) (w ++ u) (sym e) (subst (λ v. starts is_quote (v ++ rest) ≡ true) (sym k) refl) (subst (λ w. starts is_mark (w ++ u) ≡ true) (sym is) m))
 mark_case w u v rest b e is m d (mark c k h) = let a = word_form w b is in let l = word_form v c k in omega (arith, a, l)
-
 mark_case w u v rest b e is m d (number_word x y k n h) = absurd (clash is_digit is_mark digit_mark (v ++ rest) (w ++ u) (sym e) (part_starts is_digit v x y rest k (number_starts x n)) (subst (λ w. starts is_mark (w ++ u) ≡ true) (sym is) m))
 mark_case w u v rest b e is m d (literal_word y k h) = absurd (clash is_quote is_mark quote_mark (v ++ rest) (w ++ u) (sym e) (subst (λ v. starts is_quote (v ++ rest) ≡ true) (sym k) refl) (subst (λ w. starts is_mark (w ++ u) ≡ true) (sym is) m))
 mark_case w u v rest b e is m d (word_quote x k h) = absurd (clash is_word_start is_mark word_mark (v ++ rest) (w ++ u) (sym e) (part_starts is_word_start v x (34 ∷ []) rest k (word_starts x h)) (subst (λ w. starts is_mark (w ++ u) ≡ true) (sym is) m))

@@ -1,23 +1,22 @@
 -- The text with chosen words raw, and its tokens.
-use Rattle.std.proofs.Common.{◌≡◌, ◌≢◌, ℕ, suc, zero, ◌+◌, ◌-◌, ◌<◌, ◌≤◌, Bool, true, false, cond, ◌&&◌, ◌||◌, not, List, [], ◌∷◌, ◌++◌, length, take, drop, codes, refl, subst, sym, ap, ◌∙◌, arith, length-append, append_assoc}
+use Rattle.std.proofs.Common.{◌≡◌, ℕ, suc, ◌+◌, ◌-◌, Bool, true, false, cond, ◌&&◌, not, List, [], ◌∷◌, ◌++◌, length, take, drop, codes, refl, subst, sym, ap, ◌∙◌, arith, length-append, append_assoc}
 use Rattle.std.specs.Prelude.{nat_eq, All}
-use Rattle.std.specs.List.{prefix_len, starts_with, list_all}
+use Rattle.std.specs.List.{starts_with, list_all}
 use Rattle.std.proofs.lemmas.Bool.Decides.{nat_tests}
 use Rattle.std.proofs.lemmas.List.{take_at, drop_at}
 use Rattle.em_base.specs.declared.edition.Edition.{Edition}
 use Rattle.em_base.specs.declared.token.Token.{Token}
 use Rattle.em_base.specs.declared.token.TokenKind.{TokenKind}
 use Rattle.em_base.specs.declared.token.TokenKind.TheVariants.{Ident}
-use Rattle.em_lex.specs.Spelling.{is_trivia, is_digit, is_word_start, is_word_byte, is_word, is_number, is_never_raw, is_spelling, IsLongest}
+use Rattle.em_lex.specs.Spelling.{is_trivia, is_digit, is_word_start, is_word_byte, is_word, is_never_raw, is_spelling, IsLongest}
 use Rattle.em_lex.specs.Scan.{is_mark, is_quote, is_equals, starts, starts_raw}
-use Rattle.em_lex.specs.Lexing.{Lexes, Begins, kind_of, token_at}
-use Rattle.em_lex.specs.Marking.{respelled, growth, moved_token, moved, marked, HasRawForm}
+use Rattle.em_lex.specs.Lexing.{Lexes, kind_of, token_at}
+use Rattle.em_lex.specs.Marking.{growth, moved_token, moved, marked, HasRawForm}
 use Rattle.em_lex.specs.Laws.{MarkedLexes}
-use Rattle.em_lex.proofs.Shapes.{impossible, by_test, and_cases, or_left, not_true, Shape, plain, raw, digits, quoted, single, hash_front, shape_of}
+use Rattle.em_lex.proofs.Shapes.{impossible, and_cases, or_left, not_true, Shape, plain, raw, digits, quoted, single, hash_front, shape_of}
 use Rattle.em_lex.proofs.Fronts.{Stops, Front, front_word, front_raw, front_number, front_literal, front_mark, longest_front}
-use Rattle.em_lex.proofs.Longest.{word_starts, number_starts, starts_more, word_digit, word_mark, not_both, front_longest}
+use Rattle.em_lex.proofs.Longest.{word_starts, number_starts, word_digit, word_mark, not_both, front_longest}
 use Rattle.em_lex.proofs.SpelledKinds.{raw_kind}
-use Rattle.em_lex.proofs.Steps.{First}
 
 abbrev is_hash : ℕ → Bool
 is_hash b = nat_eq 35 b

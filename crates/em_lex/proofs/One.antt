@@ -1,8 +1,6 @@
 -- A text has one list of tokens.
-use Rattle.std.proofs.Common.{◌≡◌, ℕ, ◌+◌, true, List, [], ◌∷◌, ◌++◌, length, refl, subst, sym, ap, ◌∙◌}
+use Rattle.std.proofs.Common.{◌≡◌, ◌+◌, true, [], ◌∷◌, ◌++◌, length, refl, subst, sym, ap, ◌∙◌}
 use Rattle.std.specs.List.{list_all}
-use Rattle.em_base.specs.declared.edition.Edition.{Edition}
-use Rattle.em_base.specs.declared.token.Token.{Token}
 use Rattle.em_lex.specs.Spelling.{is_trivia}
 use Rattle.em_lex.specs.Lexing.{Lexes, token_at}
 use Rattle.em_lex.specs.Laws.{OneLexing}

@@ -1,11 +1,11 @@
 -- The shapes of spellings and of unbuilt forms.
-use Rattle.std.proofs.Common.{◌≡◌, ◌⊎◌, inl, inr, ℕ, ◌<◌, Bool, true, false, cond, ◌&&◌, ◌||◌, not, List, [], ◌∷◌, ◌++◌, length, take, drop, codes, refl, subst, sym, ap, ◌∙◌, arith}
+use Rattle.std.proofs.Common.{◌≡◌, ◌⊎◌, inl, inr, ℕ, Bool, true, false, cond, ◌&&◌, ◌||◌, not, List, [], ◌∷◌, ◌++◌, drop, codes, refl, subst, sym, ap, ◌∙◌, arith}
 use Rattle.std.specs.Prelude.{nat_eq}
-use Rattle.std.specs.List.{starts_with, list_all, list_any}
+use Rattle.std.specs.List.{starts_with, list_any}
 use Rattle.std.specs.Str.{bytes_eq}
 use Rattle.std.proofs.lemmas.Bool.Decides.{nat_tests, Decides-eqb}
 use Rattle.std.proofs.lemmas.Slice.Eq.{starts_is, bytes_eq-Decides}
-use Rattle.em_lex.specs.Spelling.{is_trivia, is_digit, is_word_start, is_word_byte, is_word, is_never_raw, never_raw, is_raw_word, is_number, is_literal, opening, closing, punctuation, is_spelling, compound, Unbuilt, reserved, suffixed, prefixed, longer}
+use Rattle.em_lex.specs.Spelling.{is_word, is_never_raw, never_raw, is_raw_word, is_number, is_literal, opening, closing, punctuation, is_spelling, compound, Unbuilt, reserved, suffixed, prefixed, longer}
 use Rattle.em_lex.specs.Scan.{is_mark, is_compound_start}
 
 pub impossible : {A : Type 0} → false ≡ true → A

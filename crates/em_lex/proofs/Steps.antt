@@ -1,6 +1,5 @@
 -- One step of a text: trivia, or a token.
-use Rattle.std.proofs.Common.{◌≡◌, inl, ℕ, suc, zero, ◌+◌, ◌<◌, ◌≤◌, Bool, true, false, ◌&&◌, ◌||◌, List, [], ◌∷◌, ◌++◌, length, take, drop, codes, refl, subst, sym, ap, ◌∙◌, arith, length-append, append_assoc}
-use Rattle.std.specs.Prelude.{nat_eq}
+use Rattle.std.proofs.Common.{◌≡◌, inl, ℕ, ◌+◌, Bool, true, false, List, [], ◌∷◌, ◌++◌, length, take, drop, refl, subst, sym, ap, ◌∙◌, arith, length-append, append_assoc}
 use Rattle.std.specs.List.{list_all}
 use Rattle.std.proofs.lemmas.Bool.Decides.{nat_tests}
 use Rattle.std.proofs.lemmas.List.{take_at, drop_at}
@@ -9,7 +8,7 @@ use Rattle.em_base.specs.declared.edition.Edition.{Edition}
 use Rattle.em_base.specs.declared.token.Token.{Token}
 use Rattle.em_lex.specs.Spelling.{is_trivia, is_digit, is_word_start, is_spelling, IsLongest}
 use Rattle.em_lex.specs.Scan.{is_mark, starts, scanned_len}
-use Rattle.em_lex.specs.Lexing.{Lexes, Begins, token_at}
+use Rattle.em_lex.specs.Lexing.{Lexes, token_at}
 use Rattle.em_lex.proofs.Shapes.{impossible, and_cases, both, Shape, plain, raw, digits, quoted, single, shape_of}
 use Rattle.em_lex.proofs.Longest.{word_starts, number_starts, not_both}
 use Rattle.em_lex.proofs.Found.{longest_scanned}

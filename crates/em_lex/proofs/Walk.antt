@@ -1,12 +1,12 @@
 -- How far a walk over a text has come.
-use Rattle.std.proofs.Common.{◌≡◌, ◌≢◌, ℕ, suc, zero, ◌+◌, ◌-◌, ◌<◌, ◌≤◌, Bool, true, false, cond, List, [], ◌∷◌, ◌++◌, take, drop, length, refl, subst, sym, ap, ◌∙◌, arith, length-drop, append_assoc}
+use Rattle.std.proofs.Common.{◌≡◌, ◌≢◌, ℕ, ◌+◌, ◌-◌, ◌<◌, Bool, true, false, cond, List, [], ◌∷◌, ◌++◌, take, drop, length, refl, subst, sym, ap, ◌∙◌, arith, length-drop, append_assoc}
 use Rattle.std.proofs.lemmas.List.{append-nil, drop-drop, take-append-drop, length-take-le}
 use Rattle.std.proofs.lemmas.List.Sums.{prefix_len-le-length}
 use Rattle.std.proofs.Math.Seq.{drop-length}
 use Rattle.std.specs.List.{prefix_len, list_all}
 use Rattle.em_base.specs.declared.edition.Edition.{Edition}
 use Rattle.em_base.specs.declared.token.Token.{Token}
-use Rattle.em_lex.specs.Spelling.{is_trivia, is_spelling, IsLongest}
+use Rattle.em_lex.specs.Spelling.{is_trivia, IsLongest}
 use Rattle.em_lex.specs.Scan.{scanned_len}
 use Rattle.em_lex.specs.Lexing.{Lexes, token_at}
 use Rattle.em_lex.proofs.Shapes.{by_test}

@@ -144,7 +144,11 @@ fn plain_run(text: &[u8]) -> usize
     ensures within { result ≤ length text.now }
 {
     let len = word_run(text);
-    if begins_quote(rest_from(text, len)) { 0 } else { len }
+    if begins_quote(rest_from(text, len)) {
+        0
+    } else {
+        len
+    }
 }
 
 /// The length of a number, and 0 where a word follows it: that is a literal with a suffix or of another form.
@@ -153,7 +157,11 @@ fn number_run(text: &[u8]) -> usize
     ensures within { result ≤ length text.now }
 {
     let len = digit_run(text);
-    if begins_word(rest_from(text, len)) { 0 } else { len }
+    if begins_word(rest_from(text, len)) {
+        0
+    } else {
+        len
+    }
 }
 
 /// The length of the string literal, and 0 where it isn't there or has a suffix.
@@ -164,7 +172,11 @@ fn literal_run(text: &[u8]) -> usize
     if !text.starts_with(b"\"{}\"") {
         return 0;
     }
-    if begins_word(rest_from(text, 4)) { 0 } else { 4 }
+    if begins_word(rest_from(text, 4)) {
+        0
+    } else {
+        4
+    }
 }
 
 /// Whether a byte begins compound punctuation, where a `=` follows.
@@ -232,6 +244,9 @@ pub fn kind_of_spelling(alloc: Global, spelling: &[u8]) -> Result<TokenKind, NoM
     let Some(first) = spelling.first() else {
         return Ok(TokenKind::Punct);
     };
+    if spelling == b"_".as_slice() {
+        return Ok(TokenKind::Punct);
+    }
     if starts_word(*first) {
         return identifier(alloc, spelling);
     }

@@ -1,4 +1,4 @@
-use Rattle.std.proofs.Common.{◌≡◌, ◌≢◌, ◌+◌, ◌-◌, ◌≤◌, length, drop, ap, sym, ◌∙◌, subst, refl, arith, length-drop}
+use Rattle.std.proofs.Common.{◌≡◌, ◌≢◌, ◌+◌, ◌-◌, length, ap, sym, ◌∙◌, refl, arith, length-drop}
 use Rattle.std.proofs.lemmas.Bool.Decides.{nat_tests}
 use Rattle.em_lex.proofs.Walk.{begun, ended, no_tokens, found, walked_on}
 use Rattle.em_lex.specs.Spelling.{IsLongest}
