@@ -25,7 +25,7 @@ fn finding(alloc: Global, token: &Token) -> Result<Suggestion, NoMemory>
 
 /// A finding for each identifier that is `async`, `await`, `dyn` or `try` and not raw, in order: the words that are
 /// keywords from the edition 2018 on (Edition Guide, "New keywords"). Its one part replaces the token by the raw
-/// identifier.
+/// identifier. Answers `Err` for want of memory alone.
 pub fn keyword_findings(alloc: Global, tokens: &Tokens) -> Result<List<Suggestion>, NoMemory>
     ensures { IfOk result (λ list. list ≡ findings tokens.now.list) }
 {

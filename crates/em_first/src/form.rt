@@ -102,9 +102,12 @@ fn is_body(alloc: Global, tokens: &[Token]) -> Result<bool, NoMemory>
     }
 }
 
-/// Whether the tokens are a program of the first form of the edition 2015: `fn main() { .. }` with `let` statements
-/// that bind an integer to a name, and `println!("{}", ..);` of a name that is bound. Takes time and memory in
-/// proportion to the tokens, but for the look-up of names in a set.
+/// Whether the tokens are a program of the first form of the edition 2015: `fn main() { .. }` with statements
+/// `let name = int;`, whose int an `i32` holds, and `println!("{}", name);`, whose name an earlier `let` binds. A raw
+/// name and a plain one are the same name. One pass over the tokens; the bound names stand in an ordered set, which
+/// borrows them.
+///
+/// Answers `Err` for want of memory alone.
 pub fn is_first_form(alloc: Global, tokens: &Tokens) -> Result<bool, NoMemory>
     ensures { IfOk result (λ answer. IsTrue answer ↔ FirstForm E2015 tokens.now.list) }
 {

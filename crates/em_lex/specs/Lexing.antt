@@ -1,5 +1,5 @@
 -- Which tokens a text has.
-use Rattle.std.specs.Prelude.{◌≡◌, ℕ, ◌+◌, true, false, List, [], ◌∷◌, ◌++◌, drop, length, if◌then◌else◌}
+use Rattle.std.specs.Prelude.{◌≡◌, ℕ, ◌+◌, true, false, List, [], ◌∷◌, ◌++◌, drop, length, codes, if◌then◌else◌}
 use Rattle.std.specs.List.{list_all, list_any}
 use Rattle.std.specs.Str.{bytes_eq}
 use Rattle.em_base.specs.declared.token.Token.{Token}
@@ -8,15 +8,16 @@ use Rattle.em_base.specs.declared.token.TokenKind.TheVariants.{Ident, Int, Str, 
 use Rattle.em_base.specs.declared.edition.Edition.{Edition}
 use Rattle.em_lex.specs.Spelling.{is_trivia, is_word, is_raw_word, is_number, is_literal, opening, closing, IsLongest}
 
--- the kind of a spelling
+-- the kind of a spelling, where `_` alone is punctuation (Reference, "Punctuation")
 abbrev pub kind_of : List ℕ → TokenKind
 kind_of w =
     if is_raw_word w then Ident (drop 2 w) true
+    else (if bytes_eq w (codes "_") then Punct
     else (if is_word w then Ident w false
     else (if is_number w then Int
     else (if is_literal w then Str
     else (if list_any (bytes_eq w) opening then Open
-    else (if list_any (bytes_eq w) closing then Close else Punct)))))
+    else (if list_any (bytes_eq w) closing then Close else Punct))))))
 
 -- the token of a spelling at an offset of a file
 abbrev pub token_at : ℕ → Edition → ℕ → List ℕ → Token

@@ -1,6 +1,7 @@
 -- How the lexer scans one spelling.
 use Rattle.std.specs.Prelude.{ℕ, ◌+◌, Bool, true, false, ◌&&◌, ◌||◌, ◌==◌, nat_eq, List, [], ◌∷◌, take, drop, codes, if◌then◌else◌}
 use Rattle.std.specs.List.{prefix_len, starts_with}
+use Rattle.std.specs.Str.{bytes_eq}
 use Rattle.em_base.specs.declared.token.TokenKind.{TokenKind}
 use Rattle.em_base.specs.declared.token.TokenKind.TheVariants.{Ident, Int, Str, Open, Close, Punct}
 use Rattle.em_lex.specs.Spelling.{is_digit, is_word_start, is_word_byte, is_never_raw}
@@ -64,12 +65,13 @@ scanned_len (b ∷ bs) =
 abbrev pub identifier_of : List ℕ → TokenKind
 identifier_of w = if starts_with nat_eq w (codes "r#") then Ident (drop 2 w) true else Ident w false
 
--- the kind of a spelling, by its first byte
+-- the kind of a spelling: `_` alone, or by its first byte
 abbrev pub scanned_kind : List ℕ → TokenKind
 scanned_kind [] = Punct
 scanned_kind (b ∷ bs) =
-    if is_word_start b then identifier_of (b ∷ bs)
+    if bytes_eq (b ∷ bs) (codes "_") then Punct
+    else (if is_word_start b then identifier_of (b ∷ bs)
     else (if is_digit b then Int
     else (if b == 34 then Str
     else (if (b == 40) || (b == 123) then Open
-    else (if (b == 41) || (b == 125) then Close else Punct))))
+    else (if (b == 41) || (b == 125) then Close else Punct)))))

@@ -244,6 +244,9 @@ pub fn kind_of_spelling(alloc: Global, spelling: &[u8]) -> Result<TokenKind, NoM
     let Some(first) = spelling.first() else {
         return Ok(TokenKind::Punct);
     };
+    if spelling == b"_".as_slice() {
+        return Ok(TokenKind::Punct);
+    }
     if starts_word(*first) {
         return identifier(alloc, spelling);
     }

@@ -43,8 +43,8 @@ fn texts_have_these_tokens(rt: HostRuntime) -> Result<(), Fail> {
             "word let 0..3\nraw try 4..9\npunct = 10..11\nint 07 12..14\npunct ; 14..15\n",
         ),
         (
-            "_x!(\"{}\",a1)",
-            "word _x 0..2\npunct ! 2..3\nopen ( 3..4\nstr \"{}\" 4..8\npunct , 8..9\nword a1 9..11\nclose ) 11..12\n",
+            "_x!(\"{}\",_)",
+            "word _x 0..2\npunct ! 2..3\nopen ( 3..4\nstr \"{}\" 4..8\npunct , 8..9\npunct _ 9..10\nclose ) 10..11\n",
         ),
     ] {
         assert!(rt; text.len() < 100);
