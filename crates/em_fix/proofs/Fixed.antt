@@ -1,5 +1,5 @@
 -- What the answers of the parts say of the whole.
-use Rattle.std.proofs.Common.{◌≡◌, ◌≢◌, ◌≤◌, ◌⊎◌, inl, inr, ℕ, ◌+◌, ◌<◌, get_or, take, length, List, Option, Some, None, IfSome, refl, subst, sym, ◌∙◌, ap}
+use Rattle.std.proofs.Common.{◌≡◌, ◌≢◌, ◌⊎◌, inl, inr, ℕ, get_or, length, List, Option, Some, None, IfSome, refl, subst, sym}
 use Rattle.std.proofs.lemmas.Option.{slice_get_read}
 use Rattle.em_disk.specs.Held.{Held}
 use Rattle.em_disk.specs.Changes.{PartDone}

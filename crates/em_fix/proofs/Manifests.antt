@@ -1,7 +1,7 @@
 -- When a text is no manifest of the first form.
-use Rattle.std.proofs.Common.{◌≡◌, List, ℕ, true, false, ◌++◌, sym, ◌∙◌, ap, codes}
+use Rattle.std.proofs.Common.{◌≡◌, List, ℕ, false, ◌++◌, sym, ◌∙◌, ap, codes}
 use Rattle.std.proofs.lemmas.List.{append_cancel_left, append_cancel_right}
-use Rattle.em_fix.specs.Manifest.{is_package_name, IsManifest, IsNoManifest, manifest_head, manifest_tail}
+use Rattle.em_fix.specs.Manifest.{is_package_name, IsNoManifest, manifest_head, manifest_tail}
 
 pub no_head : (bytes : List ℕ) → ((rest : List ℕ) → bytes ≡ manifest_head ++ rest → ⊥) → IsNoManifest bytes
 no_head bytes h name m = h _ m.form

@@ -1,16 +1,15 @@
 -- What the reads of a package say of its migration, where the held files may be told or not.
-use Rattle.std.proofs.Common.{◌≡◌, ◌≤◌, ◌⊎◌, inl, inr, ℕ, ◌+◌, ◌-◌, ◌^◌, min, List, [], ◌∷◌, ◌++◌, Option, Some, None, IfSome, length, subst, sym, ◌∙◌, ap, arith}
+use Rattle.std.proofs.Common.{◌≡◌, inl, inr, ℕ, List, [], ◌∷◌, ◌++◌, Option, Some, None, IfSome, subst, sym, ◌∙◌, ap}
 use Rattle.std.specs.Option.{unwrap_or}
 use Rattle.em_base.specs.declared.edit.Suggestion.{Suggestion}
 use Rattle.em_disk.specs.Held.{Held}
-use Rattle.em_disk.specs.Causes.{Rose}
 use Rattle.em_disk.specs.declared.changes.Change.{Change}
 use Rattle.em_fix.specs.Words.{manifest_name, source_name}
 use Rattle.em_base.specs.declared.edition.Edition.TheVariants.{E2015}
 use Rattle.em_fix.specs.Manifest.{IsManifest, IsNoManifest, MovesManifest}
 use Rattle.em_fix.specs.Source.{IsProgram, IsNoProgram, MovesSource}
 use Rattle.em_fix.specs.Report.{report_of}
-use Rattle.em_fix.specs.Migration.{HoldsShort, HasManifest, HasProgram, IsUnbuilt, Migrates, change, change_if}
+use Rattle.em_fix.specs.Migration.{HoldsShort, HasManifest, IsUnbuilt, Migrates, change, change_if}
 use Rattle.em_fix.specs.Answers.{FetchRefuses, Refuses}
 use Rattle.em_fix.specs.declared.status.Status.{Status}
 use Rattle.em_fix.specs.declared.status.Status.TheVariants.{Done, Usage, ReadFault, WriteFault, SinkFault, NoMemory, Unbuilt}

@@ -1,5 +1,5 @@
 -- A program with all that is found in it applied is moved.
-use Rattle.std.proofs.Common.{◌≡◌, ℕ, List, [], true, false, IsTrue, ◌↔◌, refl, subst, sym, ap, ◌∙◌}
+use Rattle.std.proofs.Common.{◌≡◌, ℕ, List, refl, subst, ap, ◌∙◌}
 use Rattle.em_base.specs.declared.edition.Edition.{Edition}
 use Rattle.em_base.specs.declared.edition.Edition.TheVariants.{E2015, E2018}
 use Rattle.em_base.specs.declared.token.Token.{Token}
@@ -11,7 +11,7 @@ use Rattle.em_first.specs.Laws.{OneCore, KeepsCore, NothingLeft, EditedLexes}
 use Rattle.em_lex.specs.Laws.{OneLexing}
 use Rattle.em_lex.specs.Lexing.{Lexes}
 use Rattle.em_lex.specs.Marking.{moved}
-use Rattle.em_fix.specs.Source.{IsProgram, IsNoProgram, Prints, MovesSource, EditsMove}
+use Rattle.em_fix.specs.Source.{IsProgram, IsNoProgram, Prints, EditsMove}
 
 -- a program prints what its statements print
 one_print : OneLexing → OneCore → (edition : Edition) (text : List ℕ) (tokens : List Token) (core : List Statement) (n : ℕ) (events : Events) → IsProgram edition text tokens core → Prints edition text n events → events ≡ first_events core n

@@ -38,7 +38,11 @@ fn only(list: List<Bytes>) -> Bytes
 }
 
 /// A source, and the same with what was found applied to it.
-fn with_edits(alloc: Global, source: Bytes, found: &List<Suggestion>) -> Result<(Bytes, Bytes), NoMemory>
+fn with_edits(
+    alloc: Global,
+    source: Bytes,
+    found: &List<Suggestion>,
+) -> Result<(Bytes, Bytes), NoMemory>
     requires { AreApplicable (source ∷ []) found.now }
     ensures { IfOk result (λ pair. (pair.0 ≡ source) × (pair.1 ≡ edited 0 found.now source)) }
 {
@@ -59,7 +63,13 @@ pub fn moved_source(alloc: Global, source: Bytes) -> Result<Option<MovedSource>,
     em_lex::lexing_is_one();
     em_first::findings_fit();
     edited_programs_are_moved();
-    let tokens = match lex(alloc, 0, Edition::E2015, source.as_slice(), &mut Lexings::new()) {
+    let tokens = match lex(
+        alloc,
+        0,
+        Edition::E2015,
+        source.as_slice(),
+        &mut Lexings::new(),
+    ) {
         Ok(tokens) => tokens,
         Err(LexError::NoMemory) => return Err(NoMemory),
         Err(LexError::At { .. }) => return Ok(None),

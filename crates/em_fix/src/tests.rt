@@ -7,10 +7,15 @@ use std::process::Abort;
 use std::test::Fail;
 
 const MANIFEST: &str = "[package]\nname = \"a\"\nedition = \"2015\"\n";
+
 const NEW_MANIFEST: &str = "[package]\nname = \"a\"\nedition = \"2018\"\n";
+
 const KEYWORD: &str = "fn main() { let async = 1; println!(\"{}\", async); }";
+
 const NEW_KEYWORD: &str = "fn main() { let r#async = 1; println!(\"{}\", r#async); }";
-const REPORT: &str = "fixed src/main.rs:16: keyword\nfixed src/main.rs:42: keyword\nmigrated 2015 -> 2018\n";
+
+const REPORT: &str =
+    "fixed src/main.rs:16: keyword\nfixed src/main.rs:42: keyword\nmigrated 2015 -> 2018\n";
 
 fn words_of(alloc: Global, words: &[&str]) -> Result<List<Text>, NoMemory> {
     let mut list = List::new(alloc);
@@ -32,7 +37,12 @@ fn file(alloc: Global, name: &str, text: &str) -> Result<(Text, Bytes), NoMemory
 }
 
 /// A package of these texts, whose calls of these numbers fail.
-fn package(alloc: Global, manifest: &str, source: &str, fails: &[u64]) -> Result<MemoryFiles, NoMemory> {
+fn package(
+    alloc: Global,
+    manifest: &str,
+    source: &str,
+    fails: &[u64],
+) -> Result<MemoryFiles, NoMemory> {
     let mut start = List::new(alloc);
     start.push(file(alloc, "Cargo.toml", manifest)?)?;
     start.push(file(alloc, "src/main.rs", source)?)?;
@@ -70,11 +80,7 @@ fn check(rt: &(impl Abort + AllocGlobal), row: &Row) -> Result<(), Fail> {
 }
 
 /// A package that is migrated.
-const fn done(
-    source: &'static str,
-    written: &'static str,
-    new_source: &'static str,
-) -> Row {
+const fn done(source: &'static str, written: &'static str, new_source: &'static str) -> Row {
     Row {
         manifest: MANIFEST,
         source,
@@ -142,8 +148,18 @@ fn refuses(rt: HostRuntime) -> Result<(), Fail> {
         kept(MANIFEST, "fn main() { let as = 1; }", 15, unbuilt),
         kept(MANIFEST, "fn main() {} fn main() {}", 15, unbuilt),
         kept(NEW_MANIFEST, KEYWORD, 15, unbuilt),
-        kept("[package]\nname = \"\"\nedition = \"2015\"\n", KEYWORD, 15, unbuilt),
-        kept("[package]\r\nname = \"a\"\r\nedition = \"2015\"\r\n", KEYWORD, 15, unbuilt),
+        kept(
+            "[package]\nname = \"\"\nedition = \"2015\"\n",
+            KEYWORD,
+            15,
+            unbuilt,
+        ),
+        kept(
+            "[package]\r\nname = \"a\"\r\nedition = \"2015\"\r\n",
+            KEYWORD,
+            15,
+            unbuilt,
+        ),
     ];
     for row in &rows {
         check(&rt, row)?;

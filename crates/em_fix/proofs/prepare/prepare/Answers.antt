@@ -1,4 +1,4 @@
-use Rattle.std.proofs.Common.{◌≡◌, sym, ◌∙◌, ap, subst, rules}
+use Rattle.std.proofs.Common.{◌∙◌, ap, subst, rules}
 use Rattle.em_fix.specs.Manifest.{MovesManifest}
 use Rattle.em_fix.specs.Report.{report_of}
 use Rattle.em_fix.proofs.Prepared.{source_refuses, source_unbuilt, all_moved}
