@@ -1,7 +1,9 @@
 pub mod AnyOrder
+pub mod Clearance
 pub mod Files
 pub mod Filtering
 pub mod FirstParts
 pub mod Pairs
+pub mod PlaceOrder
 pub mod Sorting
 pub mod Splicing

@@ -13,10 +13,10 @@ pub AllPairs-tail : {X : Type 0} (R : X → X → Type 0) (x : X) (xs : List X) 
 AllPairs-tail R x xs h i j d lt l = h (suc i) (suc j) d (omega arith) (omega arith)
 
 -- each two elements at different places, in either order
-abbrev EachTwo : {X : Type 0} → (X → X → Type 0) → List X → Type 0
+abbrev pub EachTwo : {X : Type 0} → (X → X → Type 0) → List X → Type 0
 EachTwo {X} R xs = (i j : ℕ) (d : X) → (i ≡ j → ⊥) → i < length xs → j < length xs → R (get_or xs i d) (get_or xs j d)
 
-each_two : {X : Type 0} (R : X → X → Type 0) → ((x y : X) → R x y → R y x) → (xs : List X) → AllPairs R xs → EachTwo R xs
+pub each_two : {X : Type 0} (R : X → X → Type 0) → ((x y : X) → R x y → R y x) → (xs : List X) → AllPairs R xs → EachTwo R xs
 each_two R turn xs h i j d ne i_in j_in = elim (cases_order i j) [
   | inl e ↦ absurd (ne e)
   | inr o ↦ elim o [

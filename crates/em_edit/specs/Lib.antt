@@ -1,4 +1,6 @@
 pub mod Edited
+pub mod Ends
 pub mod Fit
 pub mod Laws
+pub mod Meet
 pub mod Order

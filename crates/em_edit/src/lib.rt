@@ -3,6 +3,7 @@
 
 mod application;
 mod bad_edit;
+mod ends;
 mod laws;
 mod order;
 #[cfg(test)]
