@@ -1,5 +1,5 @@
 -- What the map of places tells of a part.
-use Rattle.std.proofs.Common.{inl, inr, ◌≡◌, ◌≢◌, ◌⊎◌, ℕ, suc, ◌+◌, ◌<◌, ◌≤◌, max, Bool, true, false, eqb, ltb, ◌&&◌, List, [], ◌∷◌, ◌++◌, length, get_or, cond, true≢false, refl, ap, sym, ◌∙◌, subst, arith, Option, Some, None}
+use Rattle.std.proofs.Common.{inl, inr, ◌≡◌, ◌≢◌, ◌⊎◌, ℕ, suc, ◌+◌, ◌<◌, ◌≤◌, max, Bool, true, false, eqb, ltb, ◌&&◌, List, [], ◌∷◌, ◌++◌, length, get_or, take, drop, cond, true≢false, refl, ap, sym, ◌∙◌, subst, arith, Option, Some, None}
 use Rattle.std.specs.Prelude.{All, AllPairs, Any, MatchBool, MatchOption, IsSome}
 use Rattle.std.specs.Option.{is_some}
 use Rattle.std.specs.Ordering.{eq_by_cmp, is_eq, nat_cmp}
@@ -8,13 +8,14 @@ use Rattle.std.proofs.lemmas.Map.Lookups.{exact_pairs, exact_unsigned}
 use Rattle.std.proofs.lemmas.Map.Views.{tells_apart}
 use Rattle.std.specs.BTreeMap.{get}
 use Rattle.std.proofs.lemmas.Bool.{cases_lt, cases_eq, cases_Bool, cond-true, cond-false}
-use Rattle.std.proofs.lemmas.List.{get_or_default, get_or_append_left, length_push}
+use Rattle.std.proofs.lemmas.List.{get_or_default, get_or_append_left, get_or-append-add, length_push, take_more, take_all, append_assoc, length-append, length-take, take-append-drop}
+use Rattle.std.proofs.lemmas.Option.{slice_get_read}
 use Rattle.std.proofs.lemmas.List.Elements.{All-push}
 use Rattle.std.proofs.lemmas.List.Quantifiers.{all_pairs_push, Any-push}
 use Rattle.em_base.specs.declared.edit.Part.{Part}
 use Rattle.em_base.specs.declared.place.Span.{Span}
 use Rattle.em_edit.specs.Ends.{Ends, place_cmp, ComesBefore, far_of, AreClear, Holds}
-use Rattle.em_edit.specs.Meet.{HasByte, HaveCommonByte, IsPutInside, Meet}
+use Rattle.em_edit.specs.Meet.{HasByte, HaveCommonByte, IsPutInside, Meet, TwoMeet}
 use Rattle.em_edit.proofs.Pairs.{each_two}
 use Rattle.em_edit.proofs.PlaceOrder.{pairs_total}
 
@@ -222,3 +223,40 @@ put_holds m n p parts holds clear updates = record {
 
 pub put_span : (m n : Ends) (span : Span) (far : ℕ) → far ≡ max span.start span.end → ((q : ℕ × ℕ) → get place_cmp n q ≡ cond (eq_by_cmp place_cmp (span.file, span.start) q) (Some far) (get place_cmp m q)) → (p : Part) (parts : List Part) → p.span ≡ span → Holds m parts → All (AreClear p) parts → Holds n (parts ++ p ∷ [])
 put_span m n span far is updates p parts e holds clear = put_holds m n p parts holds clear (λ q. updates q ∙ (ap (λ (f : ℕ). cond (eq_by_cmp place_cmp (span.file, span.start) q) (Some f) (get place_cmp m q)) is ∙ ap (λ (s : Span). cond (eq_by_cmp place_cmp (s.file, s.start) q) (Some (max s.start s.end)) (get place_cmp m q)) (sym e)))
+
+-- ---- one part after another is put into the map
+
+meet_turned : (p q : Part) → Meet p q → Meet q p
+meet_turned p q m = record { file = sym m.file; meeting = turn p q m.meeting }
+  where
+    turn : (p q : Part) → (p.span.start ≡ q.span.start) ⊎ (HaveCommonByte p q ⊎ (IsPutInside p q ⊎ IsPutInside q p)) → (q.span.start ≡ p.span.start) ⊎ (HaveCommonByte q p ⊎ (IsPutInside q p ⊎ IsPutInside p q))
+    turn p q (inl same) = inl (sym same)
+    turn p q (inr (inl b)) = inr (inl (record { offset = b.offset; one = b.other; other = b.one }))
+    turn p q (inr (inr (inl i))) = inr (inr (inr i))
+    turn p q (inr (inr (inr i))) = inr (inr (inl i))
+
+pub more_parts : (before parts : List Part) (i : ℕ) (p : Part) → i < length parts → p ≡ get_or parts i p → (before ++ take i parts) ++ p ∷ [] ≡ before ++ take (i + 1) parts
+more_parts before parts i p lt is = append_assoc before (take i parts) (p ∷ []) ∙ ap (λ (xs : List Part). before ++ xs) (ap (λ (x : Part). take i parts ++ x ∷ []) is ∙ sym (take_more parts i p lt))
+
+pub all_parts_put : (before parts : List Part) (i : ℕ) → length parts ≤ i → before ++ take i parts ≡ before ++ parts
+all_parts_put before parts i le = ap (λ (xs : List Part). before ++ xs) (take_all i parts le)
+
+-- a part that meets one of those before it
+pub meets_earlier : (before parts : List Part) (i : ℕ) (p : Part) → i < length parts → p ≡ get_or parts i p → Any (Meet p) (before ++ take i parts) → TwoMeet (before ++ parts)
+meets_earlier before parts i p lt is found =
+    let q = found.1 in
+    let short : found.0 < length before + i = omega (arith, found.2, length-append before (take i parts), length-take i parts) in
+    let all : before ++ parts ≡ (before ++ take i parts) ++ drop i parts = ap (λ (xs : List Part). before ++ xs) (sym (take-append-drop i parts)) ∙ sym (append_assoc before (take i parts) (drop i parts)) in
+    let there : q ≡ get_or (before ++ parts) found.0 q = sym (ap (λ (xs : List Part). get_or xs found.0 q) all ∙ (get_or_append_left (before ++ take i parts) (drop i parts) q found.0 found.2 ∙ found.3)) in
+    let here : p ≡ get_or (before ++ parts) (length before + i) p = is ∙ sym (get_or-append-add before parts i p) in
+    let long : length (before ++ parts) ≡ length before + length parts = length-append before parts in
+    record {
+      one = found.0;
+      other = length before + i;
+      order = short;
+      p = q;
+      q = p;
+      first = slice_get_read (before ++ parts) (length (before ++ parts)) found.0 q refl (omega arith) there;
+      second = slice_get_read (before ++ parts) (length (before ++ parts)) (length before + i) p refl (omega arith) here;
+      meet = meet_turned p q found.4;
+    }

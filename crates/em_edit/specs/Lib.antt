@@ -1,5 +1,6 @@
 pub mod Edited
 pub mod Ends
+pub mod Faults
 pub mod Fit
 pub mod Laws
 pub mod Meet

@@ -1,5 +1,5 @@
--- Which parts meet, and what a suggestion may be added to.
-use Rattle.std.specs.Prelude.{◌≡◌, ◌≢◌, ◌⊎◌, ℕ, ◌<◌, ◌≤◌, List, ◌++◌, AllPairs}
+-- Which parts meet.
+use Rattle.std.specs.Prelude.{◌≡◌, ◌⊎◌, ℕ, ◌<◌, ◌≤◌, List, Some, slice_get}
 use Rattle.em_base.specs.declared.edit.Part.{Part}
 
 -- the byte at an offset lies in the range of a part
@@ -23,6 +23,13 @@ pub record Meet (p q : Part) : Type 0 where
   pub file : p.span.file ≡ q.span.file
   pub meeting : (p.span.start ≡ q.span.start) ⊎ (HaveCommonByte p q ⊎ (IsPutInside p q ⊎ IsPutInside q p))
 
--- no two parts of a list meet
-abbrev pub NoTwoMeet : List Part → Type 0
-NoTwoMeet parts = AllPairs (λ p q. Meet p q → ⊥) parts
+-- two parts of a list meet
+pub record TwoMeet (parts : List Part) : Type 0 where
+  pub one : ℕ
+  pub other : ℕ
+  pub order : one < other
+  pub p : Part
+  pub q : Part
+  pub first : slice_get parts one ≡ Some p
+  pub second : slice_get parts other ≡ Some q
+  pub meet : Meet p q

@@ -4,6 +4,7 @@
 mod application;
 mod bad_edit;
 mod ends;
+mod faults;
 mod laws;
 mod order;
 #[cfg(test)]

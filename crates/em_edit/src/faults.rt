@@ -1,0 +1,70 @@
+ghost use Rattle.std.specs.Prelude.{◌≡◌, ◌++◌, List, All, Any, MatchBool, IfOk, IfErr, IfSome};
+ghost use Rattle.em_base.specs.declared.edit.Part.{Part};
+ghost use Rattle.em_edit.specs.Ends.{Holds};
+ghost use Rattle.em_edit.specs.Faults.{IsInText, IsOnBoundaries};
+ghost use Rattle.em_edit.specs.Fit.{is_boundary};
+ghost use Rattle.em_edit.specs.Meet.{TwoMeet};
+
+use crate::ends::{Ends, meets, put};
+use em_base::{Bytes, NoMemory, Part};
+
+/// Whether no character is cut at an offset of a text.
+fn is_boundary(text: &[u8], offset: u32) -> bool
+    ensures { result ≡ is_boundary text.now offset }
+{
+    match text.get(offset as usize) {
+        Some(byte) => !(128 <= *byte && *byte <= 191),
+        None => true,
+    }
+}
+
+/// Whether a part is a range of a source.
+fn is_in_text(sources: &[Bytes], part: &Part) -> bool
+    ensures { MatchBool result (IsInText sources.now part.now) (IsInText sources.now part.now → ⊥) }
+{
+    let span = part.span;
+    match sources.get(span.file as usize) {
+        Some(text) => span.start <= span.end && span.end as usize <= text.len(),
+        None => false,
+    }
+}
+
+/// Whether a part cuts no character of its source.
+fn is_on_boundaries(sources: &[Bytes], part: &Part) -> bool
+    ensures { MatchBool result (IsOnBoundaries sources.now part.now) (IsOnBoundaries sources.now part.now → ⊥) }
+{
+    let span = part.span;
+    match sources.get(span.file as usize) {
+        Some(text) => {
+            is_boundary(text.as_slice(), span.start) && is_boundary(text.as_slice(), span.end)
+        }
+        None => false,
+    }
+}
+
+/// Whether all parts are ranges of the sources.
+fn are_in_text(sources: &[Bytes], parts: &[Part]) -> bool
+    ensures { MatchBool result (All (IsInText sources.now) parts.now) (Any (λ p. IsInText sources.now p → ⊥) parts.now) }
+{
+    parts.iter().all(|part| is_in_text(sources, part))
+}
+
+/// Whether no part cuts a character.
+fn are_on_boundaries(sources: &[Bytes], parts: &[Part]) -> bool
+    ensures { MatchBool result (All (IsOnBoundaries sources.now) parts.now) (Any (λ p. IsOnBoundaries sources.now p → ⊥) parts.now) }
+{
+    parts.iter().all(|part| is_on_boundaries(sources, part))
+}
+
+/// Puts parts into the map, up to the first that meets one there. Whether all are put in.
+fn put_all(ends: &mut Ends, parts: &[Part]) -> Result<bool, NoMemory>
+    ensures { (before : List Part) → Holds ends.old before → IfOk result (λ all. MatchBool all (Holds ends.new (before ++ parts.now)) (TwoMeet (before ++ parts.now))) }
+{
+    for part in parts {
+        if meets(ends, part.span) {
+            return Ok(false);
+        }
+        put(ends, part.span)?;
+    }
+    Ok(true)
+}
