@@ -5,5 +5,6 @@ pub mod Filtering
 pub mod FirstParts
 pub mod Pairs
 pub mod PlaceOrder
+pub mod Refusals
 pub mod Sorting
 pub mod Splicing

@@ -1,3 +1,4 @@
+pub mod Check
 pub mod Edited
 pub mod Ends
 pub mod Faults

@@ -1,12 +1,16 @@
-ghost use Rattle.std.specs.Prelude.{◌≡◌, ◌++◌, List, All, Any, MatchBool, IfOk, IfErr, IfSome};
+ghost use Rattle.std.specs.Prelude.{◌≡◌, ◌++◌, ◌<◌, ◌^◌, List, length, All, Any, MatchBool, IfOk, IfErr, OnOk};
 ghost use Rattle.em_base.specs.declared.edit.Part.{Part};
+ghost use Rattle.em_edit.specs.Check.{IsFault};
 ghost use Rattle.em_edit.specs.Ends.{Holds};
-ghost use Rattle.em_edit.specs.Faults.{IsInText, IsOnBoundaries};
-ghost use Rattle.em_edit.specs.Fit.{is_boundary};
+ghost use Rattle.em_edit.specs.Faults.{IsInText, IsOnBoundaries, IsRefused};
+ghost use Rattle.em_edit.specs.Fit.{is_boundary, AreApplicable, LiesIn};
 ghost use Rattle.em_edit.specs.Meet.{TwoMeet};
 
+use crate::bad_edit::BadEdit;
 use crate::ends::{Ends, meets, put};
-use em_base::{Bytes, NoMemory, Part};
+use em_base::{Bytes, NoMemory, Part, Suggestion};
+use std::alloc::Global;
+use std::collections::BTreeMap;
 
 /// Whether no character is cut at an offset of a text.
 fn is_boundary(text: &[u8], offset: u32) -> bool
@@ -67,4 +71,40 @@ fn put_all(ends: &mut Ends, parts: &[Part]) -> Result<bool, NoMemory>
         put(ends, part.span)?;
     }
     Ok(true)
+}
+
+/// Whether the suggestion at an index can be applied behind those whose parts are in the map, and puts its parts in.
+fn check_one(
+    sources: &[Bytes],
+    ends: &mut Ends,
+    which: u32,
+    parts: &[Part],
+) -> Result<(), BadEdit>
+    ensures lie { OnOk result (All (LiesIn sources.now) parts.now) }
+    ensures put { (before : List Part) → Holds ends.old before → OnOk result (Holds ends.new (before ++ parts.now)) }
+    ensures fault { (before : List Part) → Holds ends.old before → IfErr result (IsFault sources.now before parts.now which) }
+{
+    if !are_in_text(sources, parts) {
+        return Err(BadEdit::OutOfText { which });
+    }
+    if !are_on_boundaries(sources, parts) {
+        return Err(BadEdit::NotBoundary { which });
+    }
+    if !put_all(ends, parts)? {
+        return Err(BadEdit::Overlap { which });
+    }
+    Ok(())
+}
+
+/// Whether all suggestions can be applied to the sources, and else the first fault of the first that can't.
+pub fn check_all(alloc: Global, sources: &[Bytes], taken: &[Suggestion]) -> Result<(), BadEdit>
+    requires { length taken.now < 2 ^ 32 }
+    ensures fit { OnOk result (AreApplicable sources.now taken.now) }
+    ensures refused { IfErr result (IsRefused sources.now taken.now) }
+{
+    let mut ends = BTreeMap::new(alloc);
+    for (which, suggestion) in taken.iter().enumerate() {
+        check_one(sources, &mut ends, which as u32, suggestion.parts.as_slice())?;
+    }
+    Ok(())
 }
