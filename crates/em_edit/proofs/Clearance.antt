@@ -1,6 +1,6 @@
 -- What the map of places tells of a part.
-use Rattle.std.proofs.Common.{inl, inr, ◌≡◌, ◌≢◌, ◌⊎◌, ℕ, suc, ◌+◌, ◌<◌, ◌≤◌, max, Bool, true, false, eqb, ltb, ◌&&◌, List, [], ◌∷◌, ◌++◌, length, get_or, take, drop, cond, true≢false, refl, ap, sym, ◌∙◌, subst, arith, Option, Some, None}
-use Rattle.std.specs.Prelude.{All, AllPairs, Any, MatchBool, MatchOption, IsSome}
+use Rattle.std.proofs.Common.{inl, inr, ◌≡◌, ◌≢◌, ◌⊎◌, ℕ, ◌+◌, ◌<◌, ◌≤◌, max, Bool, true, false, List, [], ◌∷◌, ◌++◌, length, get_or, take, drop, cond, true≢false, refl, ap, sym, ◌∙◌, subst, arith, Option, Some, None}
+use Rattle.std.specs.Prelude.{All, Any, MatchBool, IsSome}
 use Rattle.std.specs.Option.{is_some}
 use Rattle.std.specs.Ordering.{eq_by_cmp, is_eq, nat_cmp}
 use Rattle.std.proofs.lemmas.Cmp.{tied_itself}
@@ -15,7 +15,7 @@ use Rattle.std.proofs.lemmas.List.Quantifiers.{all_pairs_push, Any-push}
 use Rattle.em_base.specs.declared.edit.Part.{Part}
 use Rattle.em_base.specs.declared.place.Span.{Span}
 use Rattle.em_edit.specs.Ends.{Ends, place_cmp, ComesBefore, far_of, AreClear, Holds}
-use Rattle.em_edit.specs.Meet.{HasByte, HaveCommonByte, IsPutInside, Meet, TwoMeet}
+use Rattle.em_edit.specs.Meet.{HaveCommonByte, IsPutInside, Meet, TwoMeet}
 use Rattle.em_edit.proofs.Pairs.{each_two}
 use Rattle.em_edit.proofs.PlaceOrder.{pairs_total}
 

@@ -9,6 +9,7 @@ mod laws;
 mod order;
 #[cfg(test)]
 mod tests;
+mod texts;
 
 pub use application::apply;
 pub use bad_edit::BadEdit;

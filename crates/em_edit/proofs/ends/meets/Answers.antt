@@ -1,4 +1,3 @@
-use Rattle.std.proofs.Common.{refl, ap, sym, ◌∙◌}
 use Rattle.std.proofs.lemmas.Bool.{ltb-true, ltb-false, eqb-true}
 use Rattle.em_edit.proofs.Clearance.{some_from, none_from, meets_there, last_tells, clear_where_none_at}
 use Rattle.em_edit.proofs.ends.meets.Goals as goal
