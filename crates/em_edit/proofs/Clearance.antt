@@ -1,6 +1,6 @@
 -- What the map of places tells of a part.
 use Rattle.std.proofs.Common.{inl, inr, ◌≡◌, ◌≢◌, ◌⊎◌, ℕ, ◌+◌, ◌<◌, ◌≤◌, max, Bool, true, false, List, [], ◌∷◌, ◌++◌, length, get_or, take, drop, cond, true≢false, refl, ap, sym, ◌∙◌, subst, arith, Option, Some, None}
-use Rattle.std.specs.Prelude.{All, Any, MatchBool, IsSome}
+use Rattle.std.specs.Prelude.{All, AllPairs, Any, MatchBool, IsSome, slice_get}
 use Rattle.std.specs.Option.{is_some}
 use Rattle.std.specs.Ordering.{eq_by_cmp, is_eq, nat_cmp}
 use Rattle.std.proofs.lemmas.Cmp.{tied_itself}
@@ -9,14 +9,15 @@ use Rattle.std.proofs.lemmas.Map.Views.{tells_apart}
 use Rattle.std.specs.BTreeMap.{get}
 use Rattle.std.proofs.lemmas.Bool.{cases_lt, cases_eq, cases_Bool, cond-true, cond-false}
 use Rattle.std.proofs.lemmas.List.{get_or_default, get_or_append_left, get_or-append-add, length_push, take_more, take_all, append_assoc, length-append, length-take, take-append-drop}
-use Rattle.std.proofs.lemmas.Option.{slice_get_read}
-use Rattle.std.proofs.lemmas.List.Elements.{All-push}
+use Rattle.std.proofs.lemmas.Option.{slice_get_read, slice_get_within, get_or_from_slice_get}
+use Rattle.std.proofs.lemmas.List.Elements.{All-push, All-append, All-head, All-tail}
+use Rattle.std.proofs.lemmas.List.Kept.{AllPairs-cons}
 use Rattle.std.proofs.lemmas.List.Quantifiers.{all_pairs_push, Any-push}
 use Rattle.em_base.specs.declared.edit.Part.{Part}
 use Rattle.em_base.specs.declared.place.Span.{Span}
 use Rattle.em_edit.specs.Ends.{Ends, place_cmp, ComesBefore, far_of, AreClear, Holds}
 use Rattle.em_edit.specs.Meet.{HaveCommonByte, IsPutInside, Meet, TwoMeet}
-use Rattle.em_edit.proofs.Pairs.{each_two}
+use Rattle.em_edit.proofs.Pairs.{AllPairs-head, AllPairs-tail, each_two}
 use Rattle.em_edit.proofs.PlaceOrder.{pairs_total}
 
 -- parts of one file, each of which takes something behind the other's start, meet
@@ -260,3 +261,46 @@ meets_earlier before parts i p lt is found =
       second = slice_get_read (before ++ parts) (length (before ++ parts)) (length before + i) p refl (omega arith) here;
       meet = meet_turned p q found.4;
     }
+
+Any-left : {X : Type 0} (P : X → Type 0) (xs ys : List X) → Any P xs → Any P (xs ++ ys)
+Any-left P xs ys found = (found.0, found.1, omega (arith, found.2, length-append xs ys), get_or_append_left xs ys found.1 found.0 found.2 ∙ found.3, found.4)
+
+-- a part that meets one of those that come before the list
+pub meets_of_before : (before parts : List Part) (i : ℕ) (p : Part) → i < length parts → p ≡ get_or parts i p → Any (Meet p) before → TwoMeet (before ++ parts)
+meets_of_before before parts i p lt is met = meets_earlier before parts i p lt is (Any-left (Meet p) before (take i parts) met)
+
+-- two parts of a list that meet are two of a longer one
+pub two_later : (before parts : List Part) → TwoMeet parts → TwoMeet (before ++ parts)
+two_later before parts two = record {
+    one = length before + two.one;
+    other = length before + two.other;
+    order = let lt = two.order in omega arith;
+    p = two.p;
+    q = two.q;
+    first = later before parts two.one two.p two.first;
+    second = later before parts two.other two.q two.second;
+    meet = two.meet;
+}
+  where
+    later : (before parts : List Part) (i : ℕ) (p : Part) → slice_get parts i ≡ Some p → slice_get (before ++ parts) (length before + i) ≡ Some p
+    later before parts i p is =
+        slice_get_read (before ++ parts) (length (before ++ parts)) (length before + i) p refl
+          (omega (arith, length-append before parts, slice_get_within parts i p is))
+          (sym (get_or-append-add before parts i p ∙ get_or_from_slice_get parts i p p is))
+
+-- the parts of two lists are clear of one another
+pub clear_joined : (before parts : List Part) → AllPairs AreClear before → AllPairs AreClear parts → All (λ p. All (AreClear p) before) parts → AllPairs AreClear (before ++ parts)
+clear_joined [] parts ones others across = others
+clear_joined (q ∷ qs) parts ones others across =
+    AllPairs-cons AreClear q (qs ++ parts)
+      (All-append (AreClear q) qs parts (AllPairs-head AreClear q qs ones) (λ k d lt. clear_turned (get_or parts k d) q (All-head (AreClear (get_or parts k d)) q qs (across k d lt))))
+      (clear_joined qs parts (AllPairs-tail AreClear q qs ones) others (λ k d lt. All-tail (AreClear (get_or parts k d)) q qs (across k d lt)))
+
+
+
+
+-- parts that are clear of one another don't meet
+pub no_two_meet : (parts : List Part) → AllPairs AreClear parts → TwoMeet parts → ⊥
+no_two_meet parts clear two =
+    let away = subst (λ (x : Part). AreClear x two.q) (get_or_from_slice_get parts two.one two.p two.p two.first) (subst (λ (x : Part). AreClear (get_or parts two.one two.p) x) (get_or_from_slice_get parts two.other two.q two.p two.second) (clear two.one two.other two.p two.order (slice_get_within parts two.other two.q two.second))) in
+    clear_apart two.p two.q away two.meet

@@ -7,4 +7,5 @@ pub mod Pairs
 pub mod PlaceOrder
 pub mod Refusals
 pub mod Sorting
+pub mod Walking
 pub mod Splicing

@@ -6,3 +6,4 @@ pub mod Fit
 pub mod Laws
 pub mod Meet
 pub mod Order
+pub mod Selected

@@ -1,16 +1,14 @@
-ghost use Rattle.std.specs.Prelude.{◌≡◌, ◌++◌, ◌<◌, ◌^◌, List, length, All, Any, MatchBool, IfOk, IfErr, OnOk};
+ghost use Rattle.std.specs.Prelude.{◌≡◌, ◌++◌, ◌<◌, ◌^◌, List, length, All, Any, MatchBool, IfErr, OnOk};
 ghost use Rattle.em_base.specs.declared.edit.Part.{Part};
 ghost use Rattle.em_edit.specs.Check.{IsFault};
 ghost use Rattle.em_edit.specs.Ends.{Holds};
 ghost use Rattle.em_edit.specs.Faults.{IsInText, IsOnBoundaries, IsRefused};
 ghost use Rattle.em_edit.specs.Fit.{is_boundary, AreApplicable, LiesIn};
-ghost use Rattle.em_edit.specs.Meet.{TwoMeet};
 
 use crate::bad_edit::BadEdit;
-use crate::ends::{Ends, meets, put};
-use em_base::{Bytes, NoMemory, Part, Suggestion};
+use crate::ends::{Ends, no_ends, put_all};
+use em_base::{Bytes, Part, Suggestion};
 use std::alloc::Global;
-use std::collections::BTreeMap;
 
 /// Whether no character is cut at an offset of a text.
 fn is_boundary(text: &[u8], offset: u32) -> bool
@@ -60,19 +58,6 @@ fn are_on_boundaries(sources: &[Bytes], parts: &[Part]) -> bool
     parts.iter().all(|part| is_on_boundaries(sources, part))
 }
 
-/// Puts parts into the map, up to the first that meets one there. Whether all are put in.
-fn put_all(ends: &mut Ends, parts: &[Part]) -> Result<bool, NoMemory>
-    ensures { (before : List Part) → Holds ends.old before → IfOk result (λ all. MatchBool all (Holds ends.new (before ++ parts.now)) (TwoMeet (before ++ parts.now))) }
-{
-    for part in parts {
-        if meets(ends, part.span) {
-            return Ok(false);
-        }
-        put(ends, part.span)?;
-    }
-    Ok(true)
-}
-
 /// Whether the suggestion at an index can be applied behind those whose parts are in the map, and puts its parts in.
 fn check_one(
     sources: &[Bytes],
@@ -102,7 +87,7 @@ pub fn check_all(alloc: Global, sources: &[Bytes], taken: &[Suggestion]) -> Resu
     ensures fit { OnOk result (AreApplicable sources.now taken.now) }
     ensures refused { IfErr result (IsRefused sources.now taken.now) }
 {
-    let mut ends = BTreeMap::new(alloc);
+    let mut ends = no_ends(alloc);
     for (which, suggestion) in taken.iter().enumerate() {
         check_one(sources, &mut ends, which as u32, suggestion.parts.as_slice())?;
     }

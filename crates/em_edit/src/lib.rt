@@ -7,10 +7,12 @@ mod ends;
 mod faults;
 mod laws;
 mod order;
+mod selection;
 #[cfg(test)]
 mod tests;
 mod texts;
 
 pub use application::apply;
 pub use bad_edit::BadEdit;
+pub use selection::select;
 pub use laws::{first_part_first, no_part_keeps};

@@ -2,7 +2,7 @@ use Rattle.std.proofs.Common.{◌++◌, List, refl, subst, take}
 use Rattle.em_base.specs.declared.edit.Part.{Part}
 use Rattle.em_edit.specs.Ends.{Holds}
 use Rattle.em_edit.proofs.Clearance.{more_parts, all_parts_put, meets_earlier}
-use Rattle.em_edit.proofs.faults.put_all.Goals as goal
+use Rattle.em_edit.proofs.ends.put_all.Goals as goal
 
 pub returns-then-meets : goal.returns-then-meets
 returns-then-meets c = λ before holds.

@@ -1,7 +1,7 @@
 use Rattle.std.proofs.Common.{◌++◌, List, take}
 use Rattle.em_base.specs.declared.edit.Part.{Part}
 use Rattle.em_edit.specs.Ends.{Holds}
-use Rattle.em_edit.proofs.faults.put_all.Given as goal
+use Rattle.em_edit.proofs.ends.put_all.Given as goal
 
 -- the parts so far are in the map
 abbrev pub invariant-loop-part : goal.invariant-loop-part
