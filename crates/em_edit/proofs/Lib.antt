@@ -5,7 +5,9 @@ pub mod Filtering
 pub mod FirstParts
 pub mod Pairs
 pub mod PlaceOrder
+pub mod Places
 pub mod Refusals
 pub mod Sorting
+pub mod Sums
 pub mod Walking
 pub mod Splicing

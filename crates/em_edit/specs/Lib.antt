@@ -5,5 +5,7 @@ pub mod Faults
 pub mod Fit
 pub mod Laws
 pub mod Meet
+pub mod Moved
 pub mod Order
 pub mod Selected
+pub mod Shift

@@ -6,6 +6,7 @@ mod bad_edit;
 mod ends;
 mod faults;
 mod laws;
+mod moving;
 mod order;
 mod selection;
 #[cfg(test)]
@@ -14,5 +15,6 @@ mod texts;
 
 pub use application::apply;
 pub use bad_edit::BadEdit;
+pub use moving::moved;
 pub use selection::select;
 pub use laws::{first_part_first, no_part_keeps};
