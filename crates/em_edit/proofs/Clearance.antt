@@ -22,13 +22,16 @@ use Rattle.em_edit.proofs.PlaceOrder.{pairs_total}
 
 -- parts of one file, each of which takes something behind the other's start, meet
 pub meet_across : (p q : Part) → p.span.file ≡ q.span.file → q.span.start < far_of p → p.span.start < far_of q → Meet p q
-meet_across p q file over under = record { file = file; meeting = inr (elim (cases_lt p.span.start p.span.end) [
-  | inl bytes ↦ elim (cases_lt q.span.start q.span.end) [
-    | inl bytes' ↦ inl (record { offset = max p.span.start q.span.start; one = (omega arith, omega arith); other = (omega arith, omega arith) })
-    | inr none' ↦ inr (inr (record { insertion = none'; behind = omega arith; before = omega arith }))
-  ]
-  | inr none ↦ inr (inl (record { insertion = none; behind = omega arith; before = omega arith }))
-]) }
+meet_across p q file over under = record {
+  file = file;
+  meeting = inr (elim (cases_lt p.span.start p.span.end) [
+    | inl bytes ↦ elim (cases_lt q.span.start q.span.end) [
+      | inl bytes' ↦ inl (record { offset = max p.span.start q.span.start; one = (omega arith, omega arith); other = (omega arith, omega arith) })
+      | inr none' ↦ inr (inr (record { insertion = none'; behind = omega arith; before = omega arith }))
+    ]
+    | inr none ↦ inr (inl (record { insertion = none; behind = omega arith; before = omega arith }))
+  ]);
+}
 
 -- parts that are clear of one another don't meet
 pub clear_apart : (p q : Part) → AreClear p q → Meet p q → ⊥
@@ -95,11 +98,13 @@ last_place : (place : ℕ × ℕ) (file far qf qs : ℕ) → ComesBefore place (
 last_place place file far qf qs before same later =
     let no_file : place.0 < qf → ⊥ = (not_both later).0 in
     let no_start : (place.0 ≡ qf) × (place.1 < qs) → ⊥ = (not_both later).1 in
-    let here : place.0 ≡ file = omega (arith, before, no_file, same) in
-    (here, elim (cases_lt place.1 qs) [
-      | inl less ↦ absurd (no_start (here ∙ sym same, less))
-      | inr le ↦ le
-    ])
+    let here : place.0 ≡ file = omega (arith, before, no_file, same) in (
+      here,
+      elim (cases_lt place.1 qs) [
+        | inl less ↦ absurd (no_start (here ∙ sym same, less))
+        | inr le ↦ le
+      ],
+    )
 
 -- a part that is clear of the last one and doesn't start behind it ends before
 ends_before : (q r : Part) → AreClear q r → q.span.file ≡ r.span.file → q.span.start ≤ r.span.start → far_of q ≤ far_of r
@@ -130,11 +135,12 @@ clear_before m parts span place far holds c k d lt file early =
 clear_one : (p q : Part) (span : Span) → p.span ≡ span → (q.span.file ≡ span.file → q.span.start ≡ span.start → ⊥) → (q.span.file ≡ span.file → q.span.start < max span.start span.end → far_of q ≤ span.start) → AreClear p q
 clear_one p q span e apart early = elim (cases_eq q.span.file span.file) [
   | inl file ↦ inr (
-      (λ (s : p.span.start ≡ q.span.start). apart file (sym s ∙ ap (λ (x : Span). x.start) e)),
-      (elim (cases_lt q.span.start (max span.start span.end)) [
-        | inl less ↦ inr (let short = early file less in let s : p.span.start ≡ span.start = ap (λ (x : Span). x.start) e in omega arith)
-        | inr le ↦ inl (let s : p.span.start ≡ span.start = ap (λ (x : Span). x.start) e in let t : p.span.end ≡ span.end = ap (λ (x : Span). x.end) e in omega arith)
-      ]))
+    (λ (s : p.span.start ≡ q.span.start). apart file (sym s ∙ ap (λ (x : Span). x.start) e)),
+    (elim (cases_lt q.span.start (max span.start span.end)) [
+      | inl less ↦ inr (let short = early file less in let s : p.span.start ≡ span.start = ap (λ (x : Span). x.start) e in omega arith)
+      | inr le ↦ inl (let s : p.span.start ≡ span.start = ap (λ (x : Span). x.start) e in let t : p.span.end ≡ span.end = ap (λ (x : Span). x.end) e in omega arith)
+    ]),
+  )
   | inr other ↦ inl (λ (f : p.span.file ≡ q.span.file). other (sym f ∙ ap (λ (x : Span). x.file) e))
 ]
 
@@ -145,8 +151,8 @@ clear_of : (m : Ends) (p : Part) (parts : List Part) (span : Span) → p.span �
 clear_of m p parts span e holds none early k d lt =
     let q = get_or parts k d in
     clear_one p q span e
-      (λ file start. none_there (get place_cmp m (q.span.file, q.span.start)) (far_of q) (holds.found k d lt) (ap (λ (f : ℕ). get place_cmp m (f, q.span.start)) file ∙ (ap (λ (s : ℕ). get place_cmp m (span.file, s)) start ∙ none)))
-      (early k d lt)
+    (λ file start. none_there (get place_cmp m (q.span.file, q.span.start)) (far_of q) (holds.found k d lt) (ap (λ (f : ℕ). get place_cmp m (f, q.span.start)) file ∙ (ap (λ (s : ℕ). get place_cmp m (span.file, s)) start ∙ none)))
+    (early k d lt)
 
 pub clear_where_last : (m : Ends) (p : Part) (parts : List Part) (span : Span) (place : ℕ × ℕ) (far : ℕ) → p.span ≡ span → Holds m parts → get place_cmp m (span.file, span.start) ≡ None → IsLastClear m span place far → All (AreClear p) parts
 clear_where_last m p parts span place far e holds none c = clear_of m p parts span e holds none (clear_before m parts span place far holds c)
@@ -171,13 +177,13 @@ pub last_tells : (m : Ends) (p : Part) (parts : List Part) (span : Span) (place 
 last_tells m p parts span place far reach b e holds none r last over under =
     let before : ComesBefore place (span.file, max span.start span.end) = subst (λ (n : ℕ). ComesBefore place (span.file, n)) r last.1 in
     match_bool b
-      (λ t. meets_before m p parts span place far e holds last.0 before (over t).0 (over t).1)
-      (λ f. clear_where_last m p parts span place far e holds none (record {
-        is = last.0;
-        before = before;
-        last = λ q h. last.2 q (subst (λ (n : ℕ). ComesBefore q (span.file, n)) (sym r) h);
-        clear = under f;
-      }))
+    (λ t. meets_before m p parts span place far e holds last.0 before (over t).0 (over t).1)
+    (λ f. clear_where_last m p parts span place far e holds none (record {
+      is = last.0;
+      before = before;
+      last = λ q h. last.2 q (subst (λ (n : ℕ). ComesBefore q (span.file, n)) (sym r) h);
+      clear = under f;
+    }))
 
 pub clear_where_none_at : (m : Ends) (p : Part) (parts : List Part) (span : Span) (reach : ℕ) → p.span ≡ span → Holds m parts → get place_cmp m (span.file, span.start) ≡ None → reach ≡ max span.start span.end → ((q : ℕ × ℕ) → ComesBefore q (span.file, reach) → get place_cmp m q ≡ None) → All (AreClear p) parts
 clear_where_none_at m p parts span reach e holds none r empty = clear_where_none m p parts span e holds none (λ q h. empty q (subst (λ (n : ℕ). ComesBefore q (span.file, n)) (sym r) h))
@@ -209,14 +215,14 @@ IsEntry place far q = (place ≡ (q.span.file, q.span.start)) × (far ≡ far_of
 
 pub put_holds : (m n : Ends) (p : Part) (parts : List Part) → Holds m parts → All (AreClear p) parts → ((q : ℕ × ℕ) → get place_cmp n q ≡ cond (eq_by_cmp place_cmp (p.span.file, p.span.start) q) (Some (far_of p)) (get place_cmp m q)) → Holds n (parts ++ p ∷ [])
 put_holds m n p parts holds clear updates = record {
-    clear = all_pairs_push AreClear parts p holds.clear (λ k d lt. clear_turned p (get_or parts k d) (clear k d lt));
-    found = All-push (HasEntry n) parts p
+  clear = all_pairs_push AreClear parts p holds.clear (λ k d lt. clear_turned p (get_or parts k d) (clear k d lt));
+  found = All-push (HasEntry n) parts p
       (λ k d lt. let q = get_or parts k d in updates (q.span.file, q.span.start) ∙ (cond-false (eq_by_cmp place_cmp (p.span.file, p.span.start) (q.span.file, q.span.start)) (Some (far_of p)) (get place_cmp m (q.span.file, q.span.start)) (other_place p q (clear k d lt)) ∙ holds.found k d lt))
       (updates (p.span.file, p.span.start) ∙ cond-true (eq_by_cmp place_cmp (p.span.file, p.span.start) (p.span.file, p.span.start)) (Some (far_of p)) (get place_cmp m (p.span.file, p.span.start)) (itself (p.span.file, p.span.start)));
-    only = λ place far is. elim (cases_Bool (eq_by_cmp place_cmp (p.span.file, p.span.start) place)) [
-      | inl here ↦ Any-push (IsEntry place far) parts p (sym (same_place (p.span.file, p.span.start) place here), same_far far (far_of p) (sym is ∙ (updates place ∙ cond-true _ _ _ here)))
-      | inr other ↦ Any-longer (IsEntry place far) parts p (holds.only place far (sym (updates place ∙ cond-false _ _ _ other) ∙ is))
-    ];
+  only = λ place far is. elim (cases_Bool (eq_by_cmp place_cmp (p.span.file, p.span.start) place)) [
+    | inl here ↦ Any-push (IsEntry place far) parts p (sym (same_place (p.span.file, p.span.start) place here), same_far far (far_of p) (sym is ∙ (updates place ∙ cond-true _ _ _ here)))
+    | inr other ↦ Any-longer (IsEntry place far) parts p (holds.only place far (sym (updates place ∙ cond-false _ _ _ other) ∙ is))
+  ];
 }
   where
     same_far : (a b : ℕ) → Some a ≡ Some b → a ≡ b
@@ -272,32 +278,29 @@ meets_of_before before parts i p lt is met = meets_earlier before parts i p lt i
 -- two parts of a list that meet are two of a longer one
 pub two_later : (before parts : List Part) → TwoMeet parts → TwoMeet (before ++ parts)
 two_later before parts two = record {
-    one = length before + two.one;
-    other = length before + two.other;
-    order = let lt = two.order in omega arith;
-    p = two.p;
-    q = two.q;
-    first = later before parts two.one two.p two.first;
-    second = later before parts two.other two.q two.second;
-    meet = two.meet;
+  one = length before + two.one;
+  other = length before + two.other;
+  order = let lt = two.order in omega arith;
+  p = two.p;
+  q = two.q;
+  first = later before parts two.one two.p two.first;
+  second = later before parts two.other two.q two.second;
+  meet = two.meet;
 }
   where
     later : (before parts : List Part) (i : ℕ) (p : Part) → slice_get parts i ≡ Some p → slice_get (before ++ parts) (length before + i) ≡ Some p
     later before parts i p is =
         slice_get_read (before ++ parts) (length (before ++ parts)) (length before + i) p refl
-          (omega (arith, length-append before parts, slice_get_within parts i p is))
-          (sym (get_or-append-add before parts i p ∙ get_or_from_slice_get parts i p p is))
+        (omega (arith, length-append before parts, slice_get_within parts i p is))
+        (sym (get_or-append-add before parts i p ∙ get_or_from_slice_get parts i p p is))
 
 -- the parts of two lists are clear of one another
 pub clear_joined : (before parts : List Part) → AllPairs AreClear before → AllPairs AreClear parts → All (λ p. All (AreClear p) before) parts → AllPairs AreClear (before ++ parts)
 clear_joined [] parts ones others across = others
 clear_joined (q ∷ qs) parts ones others across =
     AllPairs-cons AreClear q (qs ++ parts)
-      (All-append (AreClear q) qs parts (AllPairs-head AreClear q qs ones) (λ k d lt. clear_turned (get_or parts k d) q (All-head (AreClear (get_or parts k d)) q qs (across k d lt))))
-      (clear_joined qs parts (AllPairs-tail AreClear q qs ones) others (λ k d lt. All-tail (AreClear (get_or parts k d)) q qs (across k d lt)))
-
-
-
+    (All-append (AreClear q) qs parts (AllPairs-head AreClear q qs ones) (λ k d lt. clear_turned (get_or parts k d) q (All-head (AreClear (get_or parts k d)) q qs (across k d lt))))
+    (clear_joined qs parts (AllPairs-tail AreClear q qs ones) others (λ k d lt. All-tail (AreClear (get_or parts k d)) q qs (across k d lt)))
 
 -- parts that are clear of one another don't meet
 pub no_two_meet : (parts : List Part) → AllPairs AreClear parts → TwoMeet parts → ⊥

@@ -3,6 +3,7 @@ pub mod Clearance
 pub mod Files
 pub mod Filtering
 pub mod FirstParts
+pub mod MovedLaws
 pub mod Pairs
 pub mod PlaceOrder
 pub mod Places

@@ -1,5 +1,5 @@
 -- The place of an offset in an edited text.
-use Rattle.std.proofs.Common.{inl, inr, ◌≡◌, ◌≢◌, ◌⊎◌, ℕ, zero, suc, ◌+◌, ◌-◌, ◌^◌, ◌<◌, ◌≤◌, min, Bool, true, false, cond, ◌&&◌, ◌||◌, eqb, ltb, leb, List, [], ◌∷◌, ◌++◌, length, get_or, take, drop, refl, ap, sym, ◌∙◌, subst, arith, length-append, add-one}
+use Rattle.std.proofs.Common.{inl, inr, ◌≡◌, ℕ, zero, suc, ◌+◌, ◌-◌, ◌^◌, ◌<◌, ◌≤◌, min, Bool, true, false, cond, ◌&&◌, eqb, ltb, leb, List, [], ◌∷◌, ◌++◌, length, get_or, drop, refl, ap, sym, ◌∙◌, arith, length-append, add-one}
 use Rattle.std.specs.Prelude.{All, AllPairs, filter, sum_by}
 use Rattle.std.specs.List.{list_any}
 use Rattle.std.proofs.lemmas.Bool.{cases_Bool, cases_order, cases_lt, lt-ltb, le-ltb, eq-eqb, ne_eqb, le-leb, lt-leb, and_parts, eqb-true, leb-true, ltb-true}
@@ -8,8 +8,8 @@ use Rattle.std.proofs.lemmas.List.{drop_more}
 use Rattle.std.proofs.lemmas.List.Sums.{sum_by-cons}
 use Rattle.em_base.specs.declared.edit.Part.{Part}
 use Rattle.em_base.specs.declared.edit.Suggestion.{Suggestion}
-use Rattle.em_edit.specs.Edited.{put_in, is_replaced, edited_on, all_parts, parts_of, edited}
-use Rattle.em_edit.specs.Fit.{AreDisjoint, Apart, LiesIn, AreApplicable}
+use Rattle.em_edit.specs.Edited.{put_in, is_replaced, edited_on, all_parts, parts_of}
+use Rattle.em_edit.specs.Fit.{Apart, LiesIn}
 use Rattle.em_edit.specs.Moved.{kept_before, is_put_before, put_before, moved_offset}
 use Rattle.em_edit.specs.Shift.{put_by, removed_by, HasPlace}
 use Rattle.em_edit.proofs.AnyOrder.{in_file, list_any-filter}
@@ -17,15 +17,15 @@ use Rattle.em_edit.proofs.Pairs.{AllPairs-head, AllPairs-tail}
 
 -- ---- texts put in before an offset
 
-put_cons : (b : Bool) (p : Part) (ps : List Part) (x : ℕ) (t : Bool) → is_put_before b x p ≡ t → put_before b (p ∷ ps) x ≡ (cond t (length p.text) 0) + put_before b ps x
+pub put_cons : (b : Bool) (p : Part) (ps : List Part) (x : ℕ) (t : Bool) → is_put_before b x p ≡ t → put_before b (p ∷ ps) x ≡ (cond t (length p.text) 0) + put_before b ps x
 put_cons b p ps x true h = rw h (sum_by-cons (λ q. length q.text) p (filter (is_put_before b x) ps))
 put_cons b p ps x false h = rw h (omega arith)
 
-put_in_cons : (p : Part) (ps : List Part) (x : ℕ) (t : Bool) → eqb p.span.start x ≡ t → length (put_in (p ∷ ps) x) ≡ (cond t (length p.text) 0) + length (put_in ps x)
+pub put_in_cons : (p : Part) (ps : List Part) (x : ℕ) (t : Bool) → eqb p.span.start x ≡ t → length (put_in (p ∷ ps) x) ≡ (cond t (length p.text) 0) + length (put_in ps x)
 put_in_cons p ps x true h = rw h (length-append p.text (put_in ps x))
 put_in_cons p ps x false h = rw h (omega arith)
 
-put_step : (ps : List Part) (x : ℕ) → put_before false ps (x + 1) ≡ put_before false ps x + length (put_in ps x)
+pub put_step : (ps : List Part) (x : ℕ) → put_before false ps (x + 1) ≡ put_before false ps x + length (put_in ps x)
 put_step [] x = omega arith
 put_step (p ∷ ps) x =
     let later = put_step ps x in
@@ -46,12 +46,12 @@ put_step (p ∷ ps) x =
       ]
     ]
 
-put_zero : (ps : List Part) → put_before false ps 0 ≡ 0
+pub put_zero : (ps : List Part) → put_before false ps 0 ≡ 0
 put_zero [] = refl
 put_zero (p ∷ ps) = omega (arith, put_cons false p ps 0 false (rw (le-ltb p.span.start 0 (omega arith)) refl), put_zero ps)
 
 -- at the next offset comes what is put in there, and the byte, unless it is replaced
-one_more : (ps : List Part) (text : List ℕ) (x : ℕ) → suc x ≤ length text → length (edited_on ps x (drop x text)) ≡ length (put_in ps x) + ((cond (is_replaced ps x) 0 1) + length (edited_on ps (suc x) (drop (suc x) text)))
+pub one_more : (ps : List Part) (text : List ℕ) (x : ℕ) → suc x ≤ length text → length (edited_on ps x (drop x text)) ≡ length (put_in ps x) + ((cond (is_replaced ps x) 0 1) + length (edited_on ps (suc x) (drop (suc x) text)))
 one_more ps text x le =
     let next : drop x text ≡ get_or text x 0 ∷ drop (suc x) text = rw (sym (add-one x)) (drop_more text x 0 (omega arith)) in
     ap (λ (ys : List ℕ). length (edited_on ps x ys)) next
@@ -64,11 +64,18 @@ one_more ps text x le =
     byte false b ys = omega arith
 
 -- the edited text is what is kept and put in before an offset, and what comes from there
-edited_length : (ps : List Part) (text : List ℕ) (x : ℕ) → x ≤ length text → length (edited_on ps 0 text) ≡ (kept_before ps x + put_before false ps x) + length (edited_on ps x (drop x text))
+pub edited_length : (ps : List Part) (text : List ℕ) (x : ℕ) → x ≤ length text → length (edited_on ps 0 text) ≡ (kept_before ps x + put_before false ps x) + length (edited_on ps x (drop x text))
 edited_length ps text zero le = omega (arith, put_zero ps)
 edited_length ps text (suc x) le =
     let put : put_before false ps (suc x) ≡ put_before false ps x + length (put_in ps x) = ap (put_before false ps) (sym (add-one x)) ∙ put_step ps x in
     omega (arith, edited_length ps text x (omega arith), put, one_more ps text x le)
+
+-- a part more puts in no less
+pub put_least : (b : Bool) (p : Part) (ps : List Part) (x : ℕ) → put_before b ps x ≤ put_before b (p ∷ ps) x
+put_least b p ps x = elim (cases_Bool (is_put_before b x p)) [
+  | inl in' ↦ omega (arith, put_cons b p ps x true in')
+  | inr out ↦ omega (arith, put_cons b p ps x false out)
+]
 
 put_most : (b : Bool) (p : Part) (ps : List Part) (x : ℕ) → put_before b (p ∷ ps) x ≤ length p.text + put_before b ps x
 put_most b p ps x = elim (cases_Bool (is_put_before b x p)) [
@@ -80,12 +87,12 @@ not_passed : (b : Bool) (x : ℕ) (p : Part) → ltb p.span.start x ≡ false �
 not_passed true x p lt eq = rw (lt, eq) refl
 not_passed false x p lt eq = rw lt refl
 
-put_first : (ps : List Part) (x : ℕ) (text : List ℕ) → length (put_in ps x) ≤ length (edited_on ps x text)
+pub put_first : (ps : List Part) (x : ℕ) (text : List ℕ) → length (put_in ps x) ≤ length (edited_on ps x text)
 put_first ps x [] = omega arith
 put_first ps x (b ∷ bs) = omega (arith, length-append (put_in ps x) ((cond (is_replaced ps x) [] (b ∷ [])) ++ edited_on ps (x + 1) bs))
 
 -- what is put in before an offset that passes an insertion there is put in before it or at it
-put_passing : (b : Bool) (ps : List Part) (x : ℕ) → put_before b ps x ≤ put_before false ps x + length (put_in ps x)
+pub put_passing : (b : Bool) (ps : List Part) (x : ℕ) → put_before b ps x ≤ put_before false ps x + length (put_in ps x)
 put_passing b [] x = omega arith
 put_passing b (p ∷ ps) x =
     let later = put_passing b ps x in

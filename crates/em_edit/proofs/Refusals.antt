@@ -26,8 +26,8 @@ apart_from_clear p q (inr clear) = inr (record { starts = clear.0; ranges = ends
 
 pub applicable : (sources : List (List ℕ)) (taken : List Suggestion) (m : Ends) → All (LiesIn sources) (all_parts taken) → Holds m (all_parts taken) → AreApplicable sources taken
 applicable sources taken m lie holds = record {
-    lie = lie;
-    apart = λ i j d lt l. apart_from_clear (get_or (all_parts taken) i d) (get_or (all_parts taken) j d) (holds.clear i j d lt l);
+  lie = lie;
+  apart = λ i j d lt l. apart_from_clear (get_or (all_parts taken) i d) (get_or (all_parts taken) j d) (holds.clear i j d lt l);
 }
 
 -- the parts of one suggestion more
@@ -46,6 +46,7 @@ is_refused sources taken m i s e lt is lie holds fault = refused e fault
   where
     stands : (w : ℕ) → w ≡ i → StandsAt sources taken w s
     stands w same = rw same (record { here = slice_get_read taken (length taken) i s refl lt is; before = applicable sources (take i taken) m lie holds })
+
     refused : (e : BadEdit) → IsFault sources (all_parts (take i taken)) s.parts i e → IsRefused sources taken e
     refused NoMemory f = f
     refused (OutOfText w) f = record { suggestion = s; stands = stands w f.0; out = f.1 }

@@ -1,5 +1,5 @@
 -- What a sort of references to parts by (file, start) leaves.
-use Rattle.std.proofs.Common.{◌≡◌, ◌⊎◌, ℕ, ◌<◌, ◌≤◌, false, List, [], ◌∷◌, map, length, arith, nat_cmp, is_lt, Bor}
+use Rattle.std.proofs.Common.{◌≡◌, ◌⊎◌, ℕ, ◌<◌, ◌≤◌, false, List, map, arith, nat_cmp, is_lt, Bor}
 use Rattle.std.specs.Prelude.{AllPairs}
 use Rattle.std.specs.Ordering.{ordering_then}
 use Rattle.std.specs.List.Sorted.{IsSortedByKey}

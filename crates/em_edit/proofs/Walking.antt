@@ -1,6 +1,6 @@
 -- The walk over the findings: their turns, sorted.
-use Rattle.std.proofs.Common.{inl, inr, ◌≡◌, ◌≢◌, ◌⊎◌, ℕ, zero, suc, ◌+◌, ◌<◌, ◌≤◌, false, List, [], ◌∷◌, ◌++◌, map, length, get_or, drop, refl, ap, sym, ◌∙◌, subst, arith, Ordering, nat_cmp, is_lt, Some, None}
-use Rattle.std.specs.Prelude.{All, AllPairs, Contains, slice_get}
+use Rattle.std.proofs.Common.{inl, inr, ◌≡◌, ◌≢◌, ◌⊎◌, ℕ, zero, suc, ◌+◌, ◌<◌, ◌≤◌, false, List, [], ◌∷◌, ◌++◌, map, length, get_or, drop, refl, ap, sym, ◌∙◌, subst, arith, Ordering, nat_cmp, is_lt, Some}
+use Rattle.std.specs.Prelude.{All, AllPairs, slice_get}
 use Rattle.std.specs.Cmp.{IsTotalOrder}
 use Rattle.std.specs.Ordering.{ordering_then}
 use Rattle.std.specs.List.Sorted.{IsPermutation, IsSorted}
@@ -14,7 +14,7 @@ use Rattle.std.proofs.lemmas.List.Sorted.{All-permutation, Contains-permutation,
 use Rattle.em_base.specs.declared.edit.Part.{Part}
 use Rattle.em_base.specs.declared.edit.Suggestion.{Suggestion}
 use Rattle.em_base.specs.declared.place.Span.{Span}
-use Rattle.em_edit.specs.Selected.{Precedes, IsBefore, IsWalk, Takes, IsSelection, Turn, turn_of, turns_from}
+use Rattle.em_edit.specs.Selected.{IsBefore, IsWalk, Takes, IsSelection, Turn, turn_of, turns_from}
 use Rattle.em_edit.specs.Ends.{AreClear}
 use Rattle.em_edit.specs.Meet.{TwoMeet}
 use Rattle.em_edit.proofs.Clearance.{no_two_meet}
@@ -34,8 +34,8 @@ turn_later first s ss t is = record { at = suc is.at; s = is.s; index = (let e =
 are_turns : (first : ℕ) (findings : List Suggestion) → All (IsTurn first findings) (turns_from first findings)
 are_turns first [] = All-nil (IsTurn first [])
 are_turns first (s ∷ ss) = All-cons (IsTurn first (s ∷ ss)) (turn_of s first) (turns_from (first + 1) ss)
-  (record { at = 0; s = s; index = omega arith; here = refl; anchor = refl })
-  (λ k d lt. turn_later first s ss (get_or (turns_from (first + 1) ss) k d) (are_turns (first + 1) ss k d lt))
+    (record { at = 0; s = s; index = omega arith; here = refl; anchor = refl })
+    (λ k d lt. turn_later first s ss (get_or (turns_from (first + 1) ss) k d) (are_turns (first + 1) ss k d lt))
 
 abbrev OtherIndex : Turn → Turn → Type 0
 OtherIndex t u = t.1 ≢ u.1
@@ -43,8 +43,8 @@ OtherIndex t u = t.1 ≢ u.1
 other_turns : (first : ℕ) (findings : List Suggestion) → AllPairs OtherIndex (turns_from first findings)
 other_turns first [] = λ i j d lt l. absurd (omega arith)
 other_turns first (s ∷ ss) = AllPairs-cons OtherIndex (turn_of s first) (turns_from (first + 1) ss)
-  (λ k d lt e. let i = (are_turns (first + 1) ss k d lt).index in omega arith)
-  (other_turns (first + 1) ss)
+    (λ k d lt e. let i = (are_turns (first + 1) ss k d lt).index in omega arith)
+    (other_turns (first + 1) ss)
 
 abbrev turn_cmp : Turn → Turn → Ordering
 turn_cmp t u = ordering_then (ordering_then (ordering_then (nat_cmp t.0.0 u.0.0) (nat_cmp t.0.1 u.0.1)) (nat_cmp t.0.2 u.0.2)) (nat_cmp t.1 u.1)
@@ -59,7 +59,7 @@ greater a b c d e f i j h ne = grind (arith, nat_tests)
 abbrev span_of : ℕ → ℕ → ℕ → Span
 span_of file start end = record { file = file; start = start; end = end }
 
-same_span : (x y : Span) → x.file ≡ y.file → x.start ≡ y.start → x.end ≡ y.end → x ≡ y
+pub same_span : (x y : Span) → x.file ≡ y.file → x.start ≡ y.start → x.end ≡ y.end → x ≡ y
 same_span x y f s e =
     ap (λ (n : ℕ). span_of n x.start x.end) f
     ∙ (ap (λ (n : ℕ). span_of y.file n x.end) s
@@ -103,12 +103,12 @@ is_walk findings start ts is moved sorted =
     record {
       within = All-map (λ i. i < length findings) (λ t. t.1) ts (λ k d lt. let t = turns k d lt in omega (arith, t.index, slice_get_within findings t.at t.s t.here));
       all = λ i lt.
-        let h = has_turn 0 findings i lt in
-        let at : h.1.1 ≡ i = omega (arith, h.4) in
-        let c = Contains-permutation (turns_from 0 findings) ts h.1 same (h.0, h.2, h.3) in
-        (c.0, omega (arith, c.1, length-map ts (λ (t : Turn). t.1)), get_or-map (λ (t : Turn). t.1) ts c.0 h.1 i c.1 ∙ (ap (λ (t : Turn). t.1) c.2 ∙ at));
+          let h = has_turn 0 findings i lt in
+          let at : h.1.1 ≡ i = omega (arith, h.4) in
+          let c = Contains-permutation (turns_from 0 findings) ts h.1 same (h.0, h.2, h.3) in
+          (c.0, omega (arith, c.1, length-map ts (λ (t : Turn). t.1)), get_or-map (λ (t : Turn). t.1) ts c.0 h.1 i c.1 ∙ (ap (λ (t : Turn). t.1) c.2 ∙ at));
       ordered = AllPairs-map (IsBefore findings) (λ t. t.1) ts (λ i j d lt l.
-        is_before findings (get_or ts i d) (get_or ts j d) (turns i d (omega arith)) (turns j d l) (others i j d lt l)
+          is_before findings (get_or ts i d) (get_or ts j d) (turns i d (omega arith)) (turns j d l) (others i j d lt l)
           (sorted_far (λ a b. is_lt (turn_cmp a b)) (ranks_by turns_total (λ t. t)) ts sorted i j d (omega arith) l));
     }
 
@@ -132,9 +132,9 @@ index_within findings items k d walk lt = subst (λ (n : ℕ). n < length findin
 
 pub is_selection : (findings : List Suggestion) (before : List Part) (items : List Turn) (k : ℕ) (taken : List ℕ) → IsWalk findings (map (λ t. t.1) items) → length items ≤ k → Onward findings before (map (λ t. t.1) (drop k items)) (map (λ t. t.1) items) taken → IsSelection findings taken
 is_selection findings before items k taken walk end onward = record {
-    order = map (λ t. t.1) items;
-    walk = walk;
-    takes = subst (Takes findings [] (map (λ t. t.1) items)) (append-nil taken) (onward [] (subst (λ (xs : List Turn). Takes findings before (map (λ t. t.1) xs) []) (sym (drop_all k items end)) refl));
+  order = map (λ t. t.1) items;
+  walk = walk;
+  takes = subst (Takes findings [] (map (λ t. t.1) items)) (append-nil taken) (onward [] (subst (λ (xs : List Turn). Takes findings before (map (λ t. t.1) xs) []) (sym (drop_all k items end)) refl));
 }
 
 -- the same of the slices that a function has of them

@@ -7,17 +7,11 @@ use em_base;
 pub enum BadEdit {
     NoMemory,
     /// A part of it is in no file, ends past the text's end or before its start.
-    OutOfText {
-        which: u32,
-    },
+    OutOfText { which: u32 },
     /// A part of it begins or ends inside a character.
-    NotBoundary {
-        which: u32,
-    },
+    NotBoundary { which: u32 },
     /// A part of it meets another of the same or of an earlier suggestion.
-    Overlap {
-        which: u32,
-    },
+    Overlap { which: u32 },
 }
 
 impl From<em_base::NoMemory> for BadEdit {

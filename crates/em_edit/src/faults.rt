@@ -59,12 +59,7 @@ fn are_on_boundaries(sources: &[Bytes], parts: &[Part]) -> bool
 }
 
 /// Whether the suggestion at an index can be applied behind those whose parts are in the map, and puts its parts in.
-fn check_one(
-    sources: &[Bytes],
-    ends: &mut Ends,
-    which: u32,
-    parts: &[Part],
-) -> Result<(), BadEdit>
+fn check_one(sources: &[Bytes], ends: &mut Ends, which: u32, parts: &[Part]) -> Result<(), BadEdit>
     ensures lie { OnOk result (All (LiesIn sources.now) parts.now) }
     ensures put { (before : List Part) → Holds ends.old before → OnOk result (Holds ends.new (before ++ parts.now)) }
     ensures fault { (before : List Part) → Holds ends.old before → IfErr result (IsFault sources.now before parts.now which) }
@@ -89,7 +84,12 @@ pub fn check_all(alloc: Global, sources: &[Bytes], taken: &[Suggestion]) -> Resu
 {
     let mut ends = no_ends(alloc);
     for (which, suggestion) in taken.iter().enumerate() {
-        check_one(sources, &mut ends, which as u32, suggestion.parts.as_slice())?;
+        check_one(
+            sources,
+            &mut ends,
+            which as u32,
+            suggestion.parts.as_slice(),
+        )?;
     }
     Ok(())
 }

@@ -15,6 +15,8 @@ mod texts;
 
 pub use application::apply;
 pub use bad_edit::BadEdit;
+pub use laws::{
+    first_part_first, no_part_keeps, none_moves, order_stays, outside_stays, taken_fit,
+};
 pub use moving::moved;
 pub use selection::select;
-pub use laws::{first_part_first, no_part_keeps};

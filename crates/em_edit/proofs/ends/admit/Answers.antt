@@ -1,4 +1,4 @@
-use Rattle.std.proofs.Common.{◌≡◌, List, ◌++◌, true, false, Bool, not, Result, Ok, Err}
+use Rattle.std.proofs.Common.{List, ◌++◌, true, false, Bool, Result, Ok, Err}
 use Rattle.std.specs.Prelude.{MatchBool, AllPairs, IfOk}
 use Rattle.std.proofs.lemmas.Bool.{MatchBool-at_true}
 use Rattle.em_base.specs.declared.edit.Part.{Part}
@@ -17,5 +17,5 @@ admitted n before parts (Err e) clear h = h
 
 pub returns : goal.returns
 returns c = λ before holds.
-  let clear = MatchBool-at_true (AllPairs AreClear (before ++ c.args.parts.now)) (TwoMeet (before ++ c.args.parts.now)) c.if-not-branch.false (c.in_ok-is_free.ensures before holds) in
-  admitted c.put_all.new.ends before c.args.parts.now c.put_all.result clear (c.put_all.ensures before holds)
+    let clear = MatchBool-at_true (AllPairs AreClear (before ++ c.args.parts.now)) (TwoMeet (before ++ c.args.parts.now)) c.if-not-branch.false (c.in_ok-is_free.ensures before holds) in
+    admitted c.put_all.new.ends before c.args.parts.now c.put_all.result clear (c.put_all.ensures before holds)

@@ -1,8 +1,8 @@
-use Rattle.std.proofs.Common.{[], ◌∷◌, List, ◌≡◌, ◌++◌, true, false, Bool, not}
+use Rattle.std.proofs.Common.{[], List, ◌++◌, true, false, Bool, not}
 use Rattle.std.specs.Prelude.{MatchBool, AllPairs, All}
-use Rattle.std.proofs.lemmas.Bool.{MatchBool-at_true, MatchBool-at_false, not-true, not-false}
+use Rattle.std.proofs.lemmas.Bool.{MatchBool-at_true, MatchBool-at_false}
 use Rattle.em_base.specs.declared.edit.Part.{Part}
-use Rattle.em_edit.specs.Ends.{Ends, AreClear, Holds}
+use Rattle.em_edit.specs.Ends.{AreClear, Holds}
 use Rattle.em_edit.specs.Meet.{TwoMeet}
 use Rattle.em_edit.proofs.Clearance.{two_later, clear_joined}
 use Rattle.em_edit.proofs.ends.is_free.Goals as goal
@@ -16,5 +16,5 @@ free before parts false ones others h = clear_joined before parts ones others h
 
 pub returns : goal.returns
 returns c = λ before holds.
-  let own = MatchBool-at_true (Holds c.put_all.new.ends c.args.parts.now) (TwoMeet c.args.parts.now) c.if-not-branch.false (c.in_ok-put_all.ensures [] c.no_ends-own.ensures) in
-  free before c.args.parts.now c.meets_any.result holds.clear own.clear (c.meets_any.ensures before holds)
+    let own = MatchBool-at_true (Holds c.put_all.new.ends c.args.parts.now) (TwoMeet c.args.parts.now) c.if-not-branch.false (c.in_ok-put_all.ensures [] c.no_ends-own.ensures) in
+    free before c.args.parts.now c.meets_any.result holds.clear own.clear (c.meets_any.ensures before holds)

@@ -1,4 +1,4 @@
-use Rattle.std.proofs.Common.{refl, subst, take, get_or, sym}
+use Rattle.std.proofs.Common.{refl, subst}
 use Rattle.std.specs.Prelude.{All}
 use Rattle.std.proofs.lemmas.List.{take_all}
 use Rattle.std.proofs.lemmas.List.Elements.{All-more}
@@ -9,11 +9,11 @@ use Rattle.em_edit.proofs.ends.meets_any.Goals as goal
 
 pub returns-then-meets : goal.returns-then-meets
 returns-then-meets c = λ before holds.
-  meets_of_before before c.args.parts.now c.loop-part.part-index c.part-item.result c.loop-part-test.true c.part-item.is (c.if-meets.ensures c.part-item.result before refl holds)
+    meets_of_before before c.args.parts.now c.loop-part.part-index c.part-item.result c.loop-part-test.true c.part-item.is (c.if-meets.ensures c.part-item.result before refl holds)
 
 pub loop-part-preserved : goal.loop-part-preserved
 loop-part-preserved c = λ before holds.
-  All-more (λ p. All (AreClear p) before) c.args.parts.now c.loop-part.part-index c.part-item.result c.loop-part-test.true (c.loop-part.invariant before holds)
+    All-more (λ p. All (AreClear p) before) c.args.parts.now c.loop-part.part-index c.part-item.result c.loop-part-test.true (c.loop-part.invariant before holds)
     (subst (λ (p : Part). All (AreClear p) before) c.part-item.is (c.if-meets.ensures c.part-item.result before refl holds))
 
 pub returns : goal.returns

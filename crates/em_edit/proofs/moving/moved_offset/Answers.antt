@@ -1,4 +1,4 @@
-use Rattle.std.proofs.Common.{◌≡◌, arith}
+use Rattle.std.proofs.Common.{arith}
 use Rattle.em_edit.proofs.Places.{is_place}
 use Rattle.em_edit.proofs.moving.moved_offset.Goals as goal
 
