@@ -20,7 +20,7 @@ abbrev stands_at : ℕ → ℕ → Part → Bool
 stands_at f o p = eqb p.span.file f && eqb p.span.start o
 
 -- a test of what a filter keeps
-list_any-filter : {X : Type 0} (t u : X → Bool) (xs : List X) → list_any t (filter u xs) ≡ list_any (λ x. u x && t x) xs
+pub list_any-filter : {X : Type 0} (t u : X → Bool) (xs : List X) → list_any t (filter u xs) ≡ list_any (λ x. u x && t x) xs
 list_any-filter t u [] = refl
 list_any-filter t u (x ∷ xs) = elim (cases_Bool (u x)) [
   | inl kept ↦ rw kept (ap (λ b. t x || b) (list_any-filter t u xs))

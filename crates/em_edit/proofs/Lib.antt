@@ -1,7 +1,14 @@
 pub mod AnyOrder
+pub mod Clearance
 pub mod Files
 pub mod Filtering
 pub mod FirstParts
+pub mod MovedLaws
 pub mod Pairs
+pub mod PlaceOrder
+pub mod Places
+pub mod Refusals
 pub mod Sorting
+pub mod Sums
+pub mod Walking
 pub mod Splicing

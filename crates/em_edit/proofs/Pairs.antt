@@ -1,8 +1,9 @@
 -- What holds of each two elements of a list, also in another order.
-use Rattle.std.proofs.Common.{inl, inr, ◌≡◌, ◌≢◌, ◌⊎◌, ℕ, suc, ◌<◌, List, ◌∷◌, length, get_or, refl, ap, ◌∙◌, arith}
+use Rattle.std.proofs.Common.{inl, inr, ◌≡◌, ◌≢◌, ◌⊎◌, ℕ, suc, ◌<◌, List, [], ◌∷◌, map, length, get_or, refl, ap, ◌∙◌, arith}
 use Rattle.std.specs.Prelude.{All, AllPairs, swap}
 use Rattle.std.specs.List.Sorted.{IsPermutation}
 use Rattle.std.proofs.lemmas.Bool.{cases_eq, cases_order}
+use Rattle.std.proofs.lemmas.List.{get_or-map, length-map}
 use Rattle.std.proofs.lemmas.List.Edits.{Swapped, swapped_from_swap, length-swap}
 use Rattle.std.proofs.lemmas.List.Sorted.{IsPermutation-keeps}
 
@@ -13,10 +14,10 @@ pub AllPairs-tail : {X : Type 0} (R : X → X → Type 0) (x : X) (xs : List X) 
 AllPairs-tail R x xs h i j d lt l = h (suc i) (suc j) d (omega arith) (omega arith)
 
 -- each two elements at different places, in either order
-abbrev EachTwo : {X : Type 0} → (X → X → Type 0) → List X → Type 0
+abbrev pub EachTwo : {X : Type 0} → (X → X → Type 0) → List X → Type 0
 EachTwo {X} R xs = (i j : ℕ) (d : X) → (i ≡ j → ⊥) → i < length xs → j < length xs → R (get_or xs i d) (get_or xs j d)
 
-each_two : {X : Type 0} (R : X → X → Type 0) → ((x y : X) → R x y → R y x) → (xs : List X) → AllPairs R xs → EachTwo R xs
+pub each_two : {X : Type 0} (R : X → X → Type 0) → ((x y : X) → R x y → R y x) → (xs : List X) → AllPairs R xs → EachTwo R xs
 each_two R turn xs h i j d ne i_in j_in = elim (cases_order i j) [
   | inl e ↦ absurd (ne e)
   | inr o ↦ elim o [
@@ -55,3 +56,11 @@ two_swapped R f g n a b h a_in b_in s i j ne i_in j_in =
 pub AllPairs-permutation : {X : Type 0} (R : X → X → Type 0) → ((x y : X) → R x y → R y x) → (xs ys : List X) → IsPermutation xs ys → AllPairs R xs → AllPairs R ys
 AllPairs-permutation R turn xs ys same h = IsPermutation-keeps xs (λ l. AllPairs R l) h (λ l a b a_in b_in p i j d lt l'.
     two_swapped R (λ k. get_or l k d) (λ k. get_or (swap l a b) k d) (length l) a b (λ i j ne i_in j_in. each_two R turn l p i j d ne i_in j_in) a_in b_in (swapped_from_swap l (swap l a b) a b d a_in b_in refl) i j (λ e. omega arith) (omega (arith, length-swap l a b)) (omega (arith, length-swap l a b))) ys same
+
+-- R holds of what a function makes of the elements
+pub AllPairs-map : {X Y : Type 0} (R : Y → Y → Type 0) (f : X → Y) (xs : List X) → AllPairs (λ x y. R (f x) (f y)) xs → AllPairs R (map f xs)
+AllPairs-map R f [] h = λ i j d lt l. absurd (omega arith)
+AllPairs-map R f (x ∷ xs) h = λ i j d lt l.
+    let j_in : j < length (x ∷ xs) = omega (arith, length-map (x ∷ xs) f) in
+    let i_in : i < length (x ∷ xs) = omega arith in
+    rw (get_or-map f (x ∷ xs) i x d i_in, get_or-map f (x ∷ xs) j x d j_in) (h i j x lt j_in)

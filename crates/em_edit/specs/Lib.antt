@@ -1,4 +1,11 @@
+pub mod Check
 pub mod Edited
+pub mod Ends
+pub mod Faults
 pub mod Fit
 pub mod Laws
+pub mod Meet
+pub mod Moved
 pub mod Order
+pub mod Selected
+pub mod Shift

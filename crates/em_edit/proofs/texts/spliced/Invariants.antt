@@ -1,7 +1,7 @@
 use Rattle.std.proofs.Common.{◌≡◌, ◌++◌, length, map, drop}
 use Rattle.em_edit.specs.Edited.{edited_on}
 use Rattle.em_edit.specs.Order.{InOrder}
-use Rattle.em_edit.proofs.application.spliced.Given as goal
+use Rattle.em_edit.proofs.texts.spliced.Given as goal
 
 abbrev pub invariant-loop-part : goal.invariant-loop-part
 invariant-loop-part l = record {

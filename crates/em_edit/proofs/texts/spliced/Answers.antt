@@ -1,6 +1,6 @@
 use Rattle.std.proofs.Common.{arith, length}
 use Rattle.em_edit.proofs.Splicing.{next_part, next_made, last_made}
-use Rattle.em_edit.proofs.application.spliced.Goals as goal
+use Rattle.em_edit.proofs.texts.spliced.Goals as goal
 
 pub between-requires-clause-within : goal.between-requires-clause-within
 between-requires-clause-within c =

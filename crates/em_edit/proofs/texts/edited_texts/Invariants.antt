@@ -2,7 +2,7 @@ use Rattle.std.proofs.Common.{◌≡◌, ◌≤◌, ◌++◌, length, map, drop}
 use Rattle.std.specs.Prelude.{filter}
 use Rattle.em_edit.specs.Edited.{edited_from}
 use Rattle.em_edit.proofs.Files.{from_file}
-use Rattle.em_edit.proofs.application.apply.Given as goal
+use Rattle.em_edit.proofs.texts.edited_texts.Given as goal
 
 abbrev pub invariant-loop-source : goal.invariant-loop-source
 invariant-loop-source l = record {

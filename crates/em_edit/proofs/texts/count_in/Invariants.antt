@@ -1,6 +1,6 @@
 use Rattle.std.proofs.Common.{◌≡◌, ◌+◌, ◌==◌, drop}
 use Rattle.std.specs.List.{prefix_len}
-use Rattle.em_edit.proofs.application.count_in.Given as goal
+use Rattle.em_edit.proofs.texts.count_in.Given as goal
 
 -- all parts so far lie in the file
 abbrev pub invariant-loop-i : goal.invariant-loop-i
