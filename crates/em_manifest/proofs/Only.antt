@@ -62,5 +62,5 @@ header_of_one bytes place first single = record {
   here = refl;
   after = refl;
   next = omega (arith, written-push first.before (line_in bytes place), line_length bytes place first.within, first.starts, first.within.some);
-  within = first.within
+  within = first.within;
 }

@@ -14,6 +14,12 @@ abbrev pub IsFault : List ℕ → ManifestError → Type 0
 IsFault bytes NoMemory = Unit {0}
 IsFault bytes (Bad kind) = manifest_of bytes ≡ Err kind
 
+-- The call answers what is expected, or that memory is wanting.
+abbrev pub IsAnswer : Result Manifest ManifestKind → Result Manifest ManifestError → Type 0
+IsAnswer expected (Ok manifest) = expected ≡ Ok manifest
+IsAnswer expected (Err NoMemory) = Unit {0}
+IsAnswer expected (Err (Bad kind)) = expected ≡ Err kind
+
 -- the kinds that come before EditionLine
 abbrev pub comes_before_line : ManifestKind → Bool
 comes_before_line NotToml = true
@@ -56,3 +62,9 @@ IsNotSet edition bytes (Bad EditionLine) =
     (has_earlier_fault (manifest_of bytes) ≡ false) × ((with_line edition bytes ≡ None) ⊎ ReadsOtherwise edition bytes)
 IsNotSet edition bytes (Bad kind) =
     (manifest_of bytes ≡ Err kind) × (comes_before_line kind ≡ false → IsSome (with_line edition bytes))
+
+-- Why bytes aren't confirmed as the manifest: they read otherwise.
+abbrev pub IsOtherwise : List ℕ → Manifest → ManifestError → Type 0
+IsOtherwise bytes manifest NoMemory = Unit {0}
+IsOtherwise bytes manifest (Bad EditionLine) = manifest_of bytes ≢ Ok manifest
+IsOtherwise bytes manifest (Bad kind) = ⊥

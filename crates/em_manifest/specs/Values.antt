@@ -29,15 +29,23 @@ is_name_start b = is_letter b || (b == 95)
 abbrev pub is_name_byte : ℕ → Bool
 is_name_byte b = is_name_start b || is_digit b
 
+-- each byte may go on an identifier
+abbrev pub goes_on : List ℕ → Bool
+goes_on text = list_all is_name_byte text
+
 -- an identifier of ASCII bytes (Reference, "Identifiers"), which the lone underscore is not
 abbrev pub is_name : List ℕ → Bool
 is_name [] = false
 is_name (b ∷ []) = is_letter b
-is_name (b ∷ bs) = is_name_start b && list_all is_name_byte bs
+is_name (b ∷ bs) = is_name_start b && goes_on bs
+
+-- an underscore for a dash
+abbrev pub underscore : ℕ → ℕ
+underscore b = if b == 45 then 95 else b
 
 -- the text with underscores for dashes
 abbrev pub underscored : List ℕ → List ℕ
-underscored text = map (λ b. if b == 45 then 95 else b) text
+underscored text = map underscore text
 
 -- the crate's name that a package's name gives
 abbrev pub crate_name : List ℕ → Option (List ℕ)
@@ -56,22 +64,31 @@ abbrev pub edition_of : Option Data → Option Edition
 edition_of None = Some E2015
 edition_of (Some value) = option_and_then edition_named (as_str value)
 
+abbrev pub edition_key : List ℕ
+edition_key = codes "edition"
+
 -- `package.edition`
 abbrev pub edition_in : Members → Option Edition
-edition_in doc = edition_of (package_value (codes "edition") doc)
+edition_in doc = edition_of (package_value edition_key doc)
+
+abbrev pub is_known_key : List ℕ → Bool
+is_known_key key = bytes_eq key (codes "path") || bytes_eq key (codes "version")
 
 -- the only keys are `path` and `version`
 abbrev pub has_known_keys : Members → Bool
 has_known_keys no_members = true
-has_known_keys (member key value rest) = (bytes_eq key (codes "path") || bytes_eq key (codes "version")) && has_known_keys rest
+has_known_keys (member key value rest) = is_known_key key && has_known_keys rest
 
 -- the path of a dependency's table
 abbrev pub path_in : Members → Option (List ℕ)
 path_in entry = if has_known_keys entry then option_and_then as_str (get_member (codes "path") entry) else None
 
+abbrev pub is_std : List ℕ → Bool
+is_std name = bytes_eq name (codes "std")
+
 -- the name that a dependency's key gives
 abbrev pub dependency_name : List ℕ → Option (List ℕ)
-dependency_name key = option_and_then (λ name. if bytes_eq name (codes "std") then None else Some name) (crate_name key)
+dependency_name key = option_and_then (λ name. if is_std name then None else Some name) (crate_name key)
 
 -- a dependency of this name and path, where there are both
 abbrev pub dependency : Option (List ℕ) → Option (List ℕ) → Option Dependency
@@ -97,10 +114,14 @@ abbrev pub have_own_names : List Dependency → Bool
 have_own_names [] = true
 have_own_names (d ∷ ds) = not (list_any (λ other. bytes_eq d.name other.name) ds) && have_own_names ds
 
--- the dependencies, where each entry is one and no two have one name
+-- the dependencies, where no two have one name
+abbrev pub own_dependencies : Option (List Dependency) → Option (List Dependency)
+own_dependencies found = option_and_then (λ ds. if have_own_names ds then Some ds else None) found
+
+-- the dependencies of a table, or none where there is no value
 abbrev pub dependencies_of : Option Data → Option (List Dependency)
 dependencies_of None = Some []
-dependencies_of (Some value) = option_and_then (λ ds. if have_own_names ds then Some ds else None) (option_and_then entries_in (as_table value))
+dependencies_of (Some value) = option_and_then (λ entries. own_dependencies (entries_in entries)) (as_table value)
 
 -- `dependencies`
 abbrev pub dependencies_in : Members → Option (List Dependency)
@@ -114,9 +135,11 @@ top_sections = codes "lib" ∷ codes "bin" ∷ codes "target" ∷ codes "workspa
 abbrev pub package_sections : List (List ℕ)
 package_sections = codes "build" ∷ codes "links" ∷ []
 
+abbrev pub has_top_section : Members → Bool
+has_top_section doc = list_any (λ key. is_some (get_member key doc)) top_sections
+
 abbrev pub has_section : Members → Bool
-has_section doc =
-    list_any (λ key. is_some (get_member key doc)) top_sections || list_any (λ key. is_some (package_value key doc)) package_sections
+has_section doc = has_top_section doc || list_any (λ key. is_some (package_value key doc)) package_sections
 
 -- the table that the bytes are: they are UTF-8, and a TOML document
 abbrev pub document : List ℕ → Option Members
@@ -141,7 +164,7 @@ manifest_of bytes = manifest_from (document bytes)
 -- whether the bytes tell the edition
 abbrev pub tells_edition : Option Members → Bool
 tells_edition None = false
-tells_edition (Some doc) = is_some (package_value (codes "edition") doc)
+tells_edition (Some doc) = is_some (package_value edition_key doc)
 
 abbrev pub has_edition : List ℕ → Bool
 has_edition bytes = tells_edition (document bytes)

@@ -2,8 +2,14 @@
 #![tactic(auto)]
 
 mod change;
+mod dependencies;
 mod forms;
 mod lines;
 mod manifest;
+mod read;
+mod set;
+mod values;
 
 pub use manifest::{Dependency, Manifest, ManifestError, ManifestKind};
+pub use read::read_manifest;
+pub use set::set_edition;
