@@ -6,3 +6,4 @@ pub mod Names
 pub mod Entries
 pub mod OwnNames
 pub mod Documents
+pub mod Confirmed

@@ -1,0 +1,14 @@
+use Rattle.std.proofs.Common.{◌≡◌, ◌∙◌, Some, option_map, ap, sym}
+use Rattle.toml.specs.View.{table_view}
+use Rattle.em_manifest.specs.Lines.{edited}
+use Rattle.em_manifest.specs.Values.{manifest_from, tells_edition}
+use Rattle.em_manifest.proofs.Confirmed.{is_fault}
+use Rattle.em_manifest.proofs.set.set_edition.Goals as goal
+
+pub returns-clause-fault : goal.returns-clause-fault
+returns-clause-fault c =
+    let read = sym c.in_ok-document.ensures ∙ ap (option_map table_view) c.in-Some.is in
+    let reads = ap manifest_from read ∙ c.in_ok-manifest.ensures in
+    let told = ap tells_edition read ∙ sym c.tells_edition.ensures in
+    let line = ap (λ t. edited c.args.edition t c.args.bytes.now) told ∙ sym c.in_ok-new.ensures ∙ c.in-Some-2.is in
+    is_fault c.args.edition c.args.bytes.now c.in-Some-2.new c.in_ok-manifest.manifest c.confirmed.result reads line c.confirmed.ensures.otherwise
