@@ -8,6 +8,8 @@ mod lines;
 mod manifest;
 mod read;
 mod set;
+#[cfg(test)]
+mod tests;
 mod values;
 
 pub use manifest::{Dependency, Manifest, ManifestError, ManifestKind};
