@@ -1,8 +1,8 @@
 -- What a manifest's table says of the package, and the first kind of fault where it says nothing.
-use Rattle.std.specs.Prelude.{◌≡◌, ℕ, Bool, true, false, not, ◌&&◌, ◌||◌, ◌==◌, nat_le, if◌then◌else◌, List, [], ◌∷◌, map, codes, Option, Some, None, is_some, option_and_then, Result, Ok, Err}
+use Rattle.std.specs.Prelude.{◌≡◌, ℕ, Bool, true, false, not, ◌&&◌, ◌||◌, ◌==◌, nat_le, if◌then◌else◌, List, [], ◌∷◌, map, codes, Option, Some, None, IfSome, is_some, option_and_then, Result, Ok, Err}
 use Rattle.std.specs.List.{list_any, list_all, find}
 use Rattle.std.specs.Str.{bytes_eq, is_utf8}
-use Rattle.toml.specs.Data.{Data, string, table, Members, no_members, member, get, get_member, as_str, as_table}
+use Rattle.toml.specs.Data.{Data, string, table, Members, no_members, member, get, get_member, as_str, as_table, is_before}
 use Rattle.toml.specs.Parse.{parse_document}
 use Rattle.em_base.specs.declared.edition.Edition.{Edition}
 use Rattle.em_base.specs.declared.edition.Edition.TheVariants.{E2015}
@@ -126,6 +126,15 @@ dependencies_of (Some value) = option_and_then (λ entries. own_dependencies (en
 -- `dependencies`
 abbrev pub dependencies_in : Members → Option (List Dependency)
 dependencies_in doc = dependencies_of (get_member (codes "dependencies") doc)
+
+-- the keys ascend in byte order
+abbrev pub keys_ascend : Members → Bool
+keys_ascend no_members = true
+keys_ascend (member key value rest) = is_before key rest && keys_ascend rest
+
+-- the entries of `dependencies` stand in byte order of their keys
+abbrev pub HasOrderedEntries : Members → Type 0
+HasOrderedEntries doc = IfSome (option_and_then as_table (get_member (codes "dependencies") doc)) (λ entries. keys_ascend entries ≡ true)
 
 -- a key of the top that stands for what isn't accepted
 abbrev pub top_sections : List (List ℕ)

@@ -1,4 +1,4 @@
-ghost use Rattle.std.specs.Prelude.{◌≡◌, IfOk, option_copied, option_map, option_and_then};
+ghost use Rattle.std.specs.Prelude.{◌≡◌, true, IfOk, option_copied, option_map, option_and_then};
 ghost use Rattle.toml.specs.Data.{as_str, as_table, get_member};
 ghost use Rattle.toml.specs.View.{view, table_view};
 ghost use Rattle.em_manifest.specs.Values as spec;
@@ -89,7 +89,8 @@ fn dependency_in(alloc: Global, key: &str, value: &Value) -> Result<Option<Depen
 
 /// The dependencies of all entries, in byte order of their keys.
 fn entries_in(alloc: Global, entries: &Table) -> Result<Option<List<Dependency>>, NoMemory>
-    ensures { IfOk result (λ found. found ≡ spec.entries_in (table_view entries.now)) }
+    ensures found { IfOk result (λ found. found ≡ spec.entries_in (table_view entries.now)) }
+    ensures order { IfOk result (λ _. spec.keys_ascend (table_view entries.now) ≡ true) }
 {
     let mut found = List::new(alloc);
     for (key, value) in entries {
@@ -118,7 +119,8 @@ fn have_own_names(alloc: Global, dependencies: &[Dependency]) -> Result<bool, No
 
 /// The dependencies of all entries, where no two have one name.
 fn own_dependencies(alloc: Global, entries: &Table) -> Result<Option<List<Dependency>>, NoMemory>
-    ensures { IfOk result (λ found. found ≡ spec.own_dependencies (spec.entries_in (table_view entries.now))) }
+    ensures found { IfOk result (λ found. found ≡ spec.own_dependencies (spec.entries_in (table_view entries.now))) }
+    ensures order { IfOk result (λ _. spec.keys_ascend (table_view entries.now) ≡ true) }
 {
     let Some(found) = entries_in(alloc, entries)? else {
         return Ok(None);
@@ -135,7 +137,8 @@ pub fn dependencies_in(
     alloc: Global,
     document: &Table,
 ) -> Result<Option<List<Dependency>>, NoMemory>
-    ensures { IfOk result (λ found. found ≡ spec.dependencies_in (table_view document.now)) }
+    ensures found { IfOk result (λ found. found ≡ spec.dependencies_in (table_view document.now)) }
+    ensures order { IfOk result (λ _. spec.HasOrderedEntries (table_view document.now)) }
 {
     let Some(value) = value_at(document, "dependencies") else {
         return Ok(Some(List::new(alloc)));

@@ -1,4 +1,4 @@
-ghost use Rattle.std.specs.Prelude.{◌≡◌, Ok, Some, IfOk, IfErr, option_map};
+ghost use Rattle.std.specs.Prelude.{◌≡◌, Ok, Some, IfOk, IfErr, IfSome, option_map};
 ghost use Rattle.toml.specs.View.{table_view};
 ghost use Rattle.em_manifest.specs.Answers.{IsAnswer, IsFault};
 ghost use Rattle.em_manifest.specs.Values as spec;
@@ -31,7 +31,8 @@ pub fn document(alloc: Global, bytes: &[u8]) -> Result<Option<Table>, NoMemory>
 
 /// What a document says as a manifest.
 pub fn manifest_in(alloc: Global, document: &Table) -> Result<Manifest, ManifestError>
-    ensures { IsAnswer (spec.manifest_from (Some (table_view document.now))) result }
+    ensures answer { IsAnswer (spec.manifest_from (Some (table_view document.now))) result }
+    ensures order { IfOk result (λ _. spec.HasOrderedEntries (table_view document.now)) }
 {
     let Some(name) = name_in(alloc, document)? else {
         return Err(ManifestError::Bad(ManifestKind::NoName));
@@ -66,6 +67,7 @@ pub fn manifest_in(alloc: Global, document: &Table) -> Result<Manifest, Manifest
 /// All else is ignored. The form of a manifest is that of the Cargo book, "The Manifest Format".
 pub fn read_manifest(alloc: Global, bytes: &[u8]) -> Result<Manifest, ManifestError>
     ensures manifest { IfOk result (λ manifest. spec.manifest_of bytes.now ≡ Ok manifest) }
+    ensures order { IfOk result (λ _. IfSome (spec.document bytes.now) spec.HasOrderedEntries) }
     ensures fault { IfErr result (IsFault bytes.now) }
 {
     match document(alloc, bytes)? {

@@ -3,7 +3,7 @@ use Rattle.std.proofs.lemmas.Map.Iter.{rest_more}
 use Rattle.std.specs.Map.Iter.{deref_pair}
 use Rattle.toml.specs.View.{view, members_view}
 use Rattle.em_manifest.specs.Values.{dependency_in, entries_in}
-use Rattle.em_manifest.proofs.Entries.{behind, entries_more}
+use Rattle.em_manifest.proofs.Entries.{behind, entries_more, entries_ascend}
 use Rattle.em_manifest.proofs.dependencies.entries_in.Goals as goal
 
 pub loop-key-preserved : goal.loop-key-preserved
@@ -14,3 +14,9 @@ loop-key-preserved c =
     ∙ ap (λ es. behind c.loop-key.found (entries_in (members_view es))) turn
     ∙ entries_more c.in-Some.key.now c.in-Some.value.now c.next.new.self c.loop-key.found c.in-Some-2.dependency here
     ∙ ap (λ found. behind found (entries_in (members_view c.next.new.self))) (sym c.in_ok-push-in-Some-2.ensures.ok)
+
+pub returns-in-None-2-clause-order : goal.returns-in-None-2-clause-order
+returns-in-None-2-clause-order c = entries_ascend c.args.entries.now.entries c.into_iter-key-iterator.ensures.into_iter_gives.5
+
+pub returns-clause-order : goal.returns-clause-order
+returns-clause-order c = entries_ascend c.args.entries.now.entries c.into_iter-key-iterator.ensures.into_iter_gives.5
