@@ -1,14 +1,12 @@
 -- Why the edition isn't set, where the lines allow it.
-use Rattle.std.proofs.Common.{◌≡◌, ◌≢◌, ℕ, List, true, false, Option, Some, None, Result, Ok, Err, IfErr, option_map, ap, sym, ◌∙◌, refl, inl, inr}
-use Rattle.toml.specs.Data.{Members}
+use Rattle.std.proofs.Common.{◌≡◌, ℕ, List, Some, Result, Ok, Err, IfErr, ap, inr}
 use Rattle.em_base.specs.declared.edition.Edition.{Edition}
 use Rattle.em_manifest.specs.declared.manifest.Manifest.{Manifest}
-use Rattle.em_manifest.specs.declared.manifest.ManifestKind.{ManifestKind}
 use Rattle.em_manifest.specs.declared.manifest.ManifestKind.TheVariants.{NoFile, NotToml, NoName, BadEdition, EditionLine, BadDependency, Section, NoTarget, TwoTargets, Cycle}
 use Rattle.em_manifest.specs.declared.manifest.ManifestError.{ManifestError}
 use Rattle.em_manifest.specs.declared.manifest.ManifestError.TheVariants.{NoMemory, Bad}
-use Rattle.em_manifest.specs.Answers.{IsNotSet, IsOtherwise, ReadsOtherwise, with_line, with_edition, has_earlier_fault}
-use Rattle.em_manifest.specs.Values.{document, manifest_from, manifest_of, has_edition, tells_edition}
+use Rattle.em_manifest.specs.Answers.{IsNotSet, IsOtherwise, with_line, with_edition, has_earlier_fault}
+use Rattle.em_manifest.specs.Values.{manifest_of}
 
 otherwise_is_fault : (edition : Edition) (bytes new : List ℕ) (manifest : Manifest) → manifest_of bytes ≡ Ok manifest → with_line edition bytes ≡ Some new
     → (e : ManifestError) → IsOtherwise new (with_edition edition manifest) e → IsNotSet edition bytes e

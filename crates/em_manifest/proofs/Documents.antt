@@ -1,5 +1,5 @@
 -- The table that bytes are, by whether they are UTF-8.
-use Rattle.std.proofs.Common.{◌≡◌, ℕ, List, true, false, None}
+use Rattle.std.proofs.Common.{◌≡◌, ℕ, List, None}
 use Rattle.std.proofs.lemmas.Bool.{false_from_ne_true}
 use Rattle.std.proofs.lemmas.Str.{IsUtf8-from_is_utf8, is_utf8-from_IsUtf8}
 use Rattle.std.specs.Str.{IsUtf8, is_utf8}

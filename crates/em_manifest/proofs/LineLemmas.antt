@@ -1,13 +1,13 @@
 -- The first line of some bytes, by the place of the first line feed.
-use Rattle.std.proofs.Common.{◌≡◌, ◌<◌, ◌≤◌, ◌+◌, ◌-◌, ◌==◌, ◌&&◌, ℕ, zero, suc, List, [], ◌∷◌, ◌++◌, Bool, true, false, length, take, drop, get_or, sym, ◌∙◌, ap, refl, arith, inl, inr, slice_index, cond, ◌⊎◌}
-use Rattle.std.proofs.lemmas.Bool.{cases_Bool, eqb-true, and_left, and_right, ne_eqb}
+use Rattle.std.proofs.Common.{◌≡◌, ◌<◌, ◌≤◌, ◌+◌, ◌-◌, ◌==◌, ℕ, suc, List, [], ◌∷◌, ◌++◌, Bool, false, length, take, drop, get_or, ◌∙◌, refl, arith, inl, inr}
+use Rattle.std.proofs.lemmas.Bool.{cases_Bool, eqb-true, and_right}
 use Rattle.std.proofs.lemmas.Bool.Decides.{nat_tests}
 use Rattle.std.proofs.lemmas.List.{length-take-le, length-append, length-drop, take-take, take_more, drop-take, get_or-drop, drop-drop, drop_all, take_rest}
 use Rattle.std.proofs.lemmas.List.Sums.{passes_at_first}
 use Rattle.std.specs.List.{position_or_len}
 use Rattle.em_manifest.specs.Lines.{Line, lines, begin_with, is_line_feed}
 use Rattle.em_manifest.specs.declared.lines.Line.{Line as Place}
-use Rattle.em_manifest.specs.Places.{ends_return, line_in, IsLineAt, IsWithin}
+use Rattle.em_manifest.specs.Places.{ends_return, line_in, IsLineAt}
 
 abbrev is_feed : ℕ → Bool
 is_feed b = b == 10

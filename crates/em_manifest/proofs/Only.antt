@@ -1,10 +1,9 @@
 -- The only element of a list that passes a test.
-use Rattle.std.proofs.Common.{◌≡◌, ◌+◌, ◌||◌, ◌&&◌, ℕ, List, [], ◌∷◌, ◌++◌, Bool, true, false, Option, Some, None, option_map, length, drop, sym, ◌∙◌, ap, refl, arith}
-use Rattle.std.proofs.lemmas.Bool.{or_parts, or_right, or_left}
-use Rattle.std.proofs.lemmas.List.Folds.{list_any-append}
+use Rattle.std.proofs.Common.{◌≡◌, ◌+◌, ℕ, List, [], ◌∷◌, ◌++◌, Bool, true, false, Option, Some, None, drop, ◌∙◌, ap, refl, arith}
+use Rattle.std.proofs.lemmas.Bool.{or_parts, or_right}
 use Rattle.std.specs.List.{list_any}
 use Rattle.em_manifest.specs.declared.lines.Line.{Line as Place}
-use Rattle.em_manifest.specs.Lines.{Line, Parted, the_first, the_only, written, lines, own_lines, is_edition_line, is_header, before_year}
+use Rattle.em_manifest.specs.Lines.{Line, Parted, the_first, the_only, lines, own_lines, is_edition_line, is_header, before_year}
 use Rattle.em_manifest.specs.Places.{line_in, IsFirst, IsHeaderAt, year_place}
 use Rattle.em_manifest.proofs.Walks.{written-push, line_length}
 

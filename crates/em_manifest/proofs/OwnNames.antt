@@ -1,5 +1,5 @@
 -- Names that are looked up among those that follow.
-use Rattle.std.proofs.Common.{◌≡◌, ◌<◌, ◌+◌, ℕ, List, [], ◌∷◌, ◌++◌, Bool, true, false, ◌&&◌, ◌||◌, not, length, drop, take, get_or, sym, ◌∙◌, ap, refl, Option, Some, None, is_some, Bor, BTreeMap, cond, inl, inr}
+use Rattle.std.proofs.Common.{◌≡◌, ◌<◌, ◌+◌, ℕ, List, [], ◌∷◌, ◌++◌, Bool, true, false, ◌||◌, not, length, drop, take, get_or, sym, ◌∙◌, ap, refl, Option, Some, is_some, Bor, BTreeMap, cond, inl, inr}
 use Rattle.std.proofs.lemmas.Bool.{and_right, cases_Bool, false≢true, false_from_ne_true}
 use Rattle.std.proofs.lemmas.List.{at_drop_more, drop_more, take-append-drop}
 use Rattle.std.proofs.lemmas.Map.Text.{btree_map_updates_str}

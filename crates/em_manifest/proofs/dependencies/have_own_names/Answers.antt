@@ -1,5 +1,4 @@
-use Rattle.std.proofs.Common.{◌≡◌, ◌≤◌, ◌+◌, ◌-◌, ◌∙◌, ℕ, List, Bool, is_some, length, drop, ap, sym, arith, refl}
-use Rattle.em_manifest.specs.Values.{have_own_names}
+use Rattle.std.proofs.Common.{◌≡◌, ◌≤◌, ◌+◌, ◌-◌, ◌∙◌, is_some, length, drop, ap, sym, arith}
 use Rattle.em_manifest.proofs.OwnNames.{has_name, own_more, twice_at, seen_more}
 use Rattle.em_manifest.proofs.dependencies.have_own_names.Goals as goal
 

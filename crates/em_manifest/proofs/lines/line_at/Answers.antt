@@ -1,4 +1,4 @@
-use Rattle.std.proofs.Common.{◌≡◌, ◌==◌, ◌+◌, ◌-◌, ◌<◌, ◌∙◌, length, drop, take, sym, ap, arith}
+use Rattle.std.proofs.Common.{◌≡◌, ◌==◌, ◌-◌, ◌<◌, ◌∙◌, length, drop, take, sym, ap, arith}
 use Rattle.std.specs.List.{position_or_len}
 use Rattle.em_manifest.proofs.LineLemmas.{is_last, is_first}
 use Rattle.em_manifest.specs.Places.{ends_return}

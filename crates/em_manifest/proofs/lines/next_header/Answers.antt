@@ -1,4 +1,4 @@
-use Rattle.std.proofs.Common.{◌∙◌, refl, sym, ap}
+use Rattle.std.proofs.Common.{◌∙◌, sym, ap}
 use Rattle.em_manifest.specs.Lines.{is_header, is_header_text}
 use Rattle.em_manifest.proofs.Walks.{walk_on}
 use Rattle.em_manifest.proofs.lines.next_header.Goals as goal
