@@ -20,3 +20,6 @@ pub use place::{Mark, Place, Span};
 pub use slices::{between, rest_from};
 pub use text::{Bytes, Text};
 pub use token::{Token, TokenKind, Tokens};
+
+#[cfg(test)]
+mod tests;

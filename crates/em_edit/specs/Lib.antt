@@ -1,0 +1,4 @@
+pub mod Edited
+pub mod Fit
+pub mod Laws
+pub mod Order

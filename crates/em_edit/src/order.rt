@@ -1,0 +1,30 @@
+ghost use Rattle.std.specs.Prelude.{◌≡◌, AllPairs, IfOk, map};
+ghost use Rattle.std.specs.List.Sorted.{IsPermutation};
+ghost use Rattle.em_edit.specs.Edited.{all_parts};
+ghost use Rattle.em_edit.specs.Order.{StartsNoLater};
+
+use em_base::{NoMemory, Part, Suggestion};
+use std::alloc::Global;
+
+/// All parts of suggestions.
+fn parts_of<'a>(alloc: Global, taken: &'a [Suggestion]) -> Result<Vec<&'a Part>, NoMemory>
+    ensures { IfOk result (λ v. map (λ p. p.now) v.items ≡ all_parts taken.now) }
+{
+    let mut parts = Vec::new(alloc);
+    for suggestion in taken {
+        for part in suggestion.parts.as_slice() {
+            parts.push(part)?;
+        }
+    }
+    Ok(parts)
+}
+
+/// All parts of suggestions in the order of (file, start).
+pub fn ordered_parts<'a>(alloc: Global, taken: &'a [Suggestion]) -> Result<Vec<&'a Part>, NoMemory>
+    ensures same { IfOk result (λ v. IsPermutation (all_parts taken.now) (map (λ p. p.now) v.items)) }
+    ensures order { IfOk result (λ v. AllPairs StartsNoLater (map (λ p. p.now) v.items)) }
+{
+    let mut parts = parts_of(alloc, taken)?;
+    parts.sort_by_key(|part| (part.span.file, part.span.start))?;
+    Ok(parts)
+}

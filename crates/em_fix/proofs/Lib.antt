@@ -1,0 +1,6 @@
+pub mod Written
+pub mod WordLists
+pub mod Manifests
+pub mod Prepared
+pub mod Fixed
+pub mod Sources

@@ -1,0 +1,52 @@
+-- A program with all that is found in it applied is moved.
+use Rattle.std.proofs.Common.{◌≡◌, ℕ, List, refl, subst, ap, ◌∙◌}
+use Rattle.em_base.specs.declared.edition.Edition.{Edition}
+use Rattle.em_base.specs.declared.edition.Edition.TheVariants.{E2015, E2018}
+use Rattle.em_base.specs.declared.token.Token.{Token}
+use Rattle.em_edit.specs.Edited.{edited}
+use Rattle.em_first.specs.Events.{Events, first_events}
+use Rattle.em_first.specs.Form.{Statement, FirstCore, FirstForm}
+use Rattle.em_first.specs.Keyword.{findings, is_found}
+use Rattle.em_first.specs.Laws.{OneCore, KeepsCore, NothingLeft, EditedLexes}
+use Rattle.em_lex.specs.Laws.{OneLexing}
+use Rattle.em_lex.specs.Lexing.{Lexes}
+use Rattle.em_lex.specs.Marking.{moved}
+use Rattle.em_fix.specs.Source.{IsProgram, IsNoProgram, Prints, EditsMove}
+
+-- a program prints what its statements print
+one_print : OneLexing → OneCore → (edition : Edition) (text : List ℕ) (tokens : List Token) (core : List Statement) (n : ℕ) (events : Events) → IsProgram edition text tokens core → Prints edition text n events → events ≡ first_events core n
+one_print lexing one edition text tokens core n events program p =
+    let same : p.tokens ≡ tokens = lexing 0 edition 0 text p.tokens tokens p.program.lexes program.lexes in
+    let form : FirstCore edition tokens p.core = subst (λ ts. FirstCore edition ts p.core) same p.program.form in
+    p.prints ∙ ap (λ c. first_events c n) (one edition tokens p.core core form program.form)
+
+-- two programs of the same statements print the same
+prints_too : OneLexing → OneCore → (from to : Edition) (old new : List ℕ) (old_tokens new_tokens : List Token) (core : List Statement) (n : ℕ) (events : Events) → IsProgram from old old_tokens core → IsProgram to new new_tokens core → Prints from old n events → Prints to new n events
+prints_too lexing one from to old new old_tokens new_tokens core n events before now p =
+    record { tokens = new_tokens; core = core; program = now; prints = one_print lexing one from old old_tokens core n events before p }
+
+pub edits_move : OneLexing → OneCore → KeepsCore → NothingLeft → EditedLexes → EditsMove
+edits_move lexing one keeps nothing lexes old tokens h form =
+    let new : List ℕ = edited 0 (findings tokens) old in
+    let before : IsProgram E2015 old tokens form.0 = record { lexes = h; form = form.1 } in
+    let now : IsProgram E2018 new (moved is_found E2018 0 tokens) form.0 = record { lexes = lexes 0 old tokens h; form = keeps 0 tokens form.0 form.1 } in
+    record {
+      tokens = tokens;
+      new_tokens = moved is_found E2018 0 tokens;
+      core = form.0;
+      program = before;
+      all_found = refl;
+      edits = refl;
+      new_program = now;
+      silent = nothing 0 tokens;
+      same_prints = λ n events. (λ p. prints_too lexing one E2015 E2018 old new tokens (moved is_found E2018 0 tokens) form.0 n events before now p, λ p. prints_too lexing one E2018 E2015 new old (moved is_found E2018 0 tokens) tokens form.0 n events now before p);
+    }
+
+-- a text with no tokens is no program
+pub no_lexing : (text : List ℕ) → ((tokens : List Token) → Lexes 0 E2015 0 text tokens → ⊥) → IsNoProgram text
+no_lexing text none tokens core program = none tokens program.lexes
+
+-- a text whose tokens aren't of the first form is no program
+pub no_form : OneLexing → (text : List ℕ) (tokens : List Token) → Lexes 0 E2015 0 text tokens → (FirstForm E2015 tokens → ⊥) → IsNoProgram text
+no_form lexing text tokens h none other core program =
+    none (core, subst (λ ts. FirstCore E2015 ts core) (lexing 0 E2015 0 text other tokens program.lexes h) program.form)

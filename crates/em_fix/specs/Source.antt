@@ -1,0 +1,44 @@
+-- What a migration makes of a source, and that it prints the same.
+use Rattle.std.specs.Prelude.{◌≡◌, ◌↔◌, ℕ, List, []}
+use Rattle.em_base.specs.declared.edit.Suggestion.{Suggestion}
+use Rattle.em_base.specs.declared.edition.Edition.{Edition}
+use Rattle.em_base.specs.declared.edition.Edition.TheVariants.{E2015, E2018}
+use Rattle.em_base.specs.declared.token.Token.{Token}
+use Rattle.em_edit.specs.Edited.{edited}
+use Rattle.em_first.specs.Events.{Events, first_events}
+use Rattle.em_first.specs.Form.{Statement, FirstCore, FirstForm}
+use Rattle.em_first.specs.Keyword.{findings}
+use Rattle.em_lex.specs.Lexing.{Lexes}
+
+-- a text has these tokens under an edition, and they are a program of the first form of these statements
+pub record IsProgram (edition : Edition) (text : List ℕ) (tokens : List Token) (core : List Statement) : Type 0 where
+  pub lexes : Lexes 0 edition 0 text tokens
+  pub form : FirstCore edition tokens core
+
+-- a text is no program of the first form of 2015
+abbrev pub IsNoProgram : List ℕ → Type 0
+IsNoProgram text = (tokens : List Token) (core : List Statement) → IsProgram E2015 text tokens core → ⊥
+
+-- a text is a program of the first form under an edition, whose first n statements print this
+pub record Prints (edition : Edition) (text : List ℕ) (n : ℕ) (events : Events) : Type 0 where
+  pub tokens : List Token
+  pub core : List Statement
+  pub program : IsProgram edition text tokens core
+  pub prints : events ≡ first_events core n
+
+-- the new source is the old one with all that was found applied to it; both are programs of the same statements, nothing is found in
+-- the new one, and after any number of statements both print the same
+pub record MovesSource (old new : List ℕ) (found : List Suggestion) : Type 0 where
+  pub tokens : List Token
+  pub new_tokens : List Token
+  pub core : List Statement
+  pub program : IsProgram E2015 old tokens core
+  pub all_found : found ≡ findings tokens
+  pub edits : new ≡ edited 0 found old
+  pub new_program : IsProgram E2018 new new_tokens core
+  pub silent : findings new_tokens ≡ []
+  pub same_prints : (n : ℕ) (events : Events) → (Prints E2015 old n events) ↔ (Prints E2018 new n events)
+
+-- any program with all that is found in it applied is moved
+abbrev pub EditsMove : Type 0
+EditsMove = (old : List ℕ) (tokens : List Token) → Lexes 0 E2015 0 old tokens → FirstForm E2015 tokens → MovesSource old (edited 0 (findings tokens) old) (findings tokens)
