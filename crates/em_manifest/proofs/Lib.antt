@@ -7,3 +7,4 @@ pub mod Entries
 pub mod OwnNames
 pub mod Documents
 pub mod Confirmed
+pub mod LawLemmas

@@ -1,10 +1,12 @@
 -- The first line of some bytes, by the place of the first line feed.
-use Rattle.std.proofs.Common.{◌≡◌, ◌<◌, ◌≤◌, ◌+◌, ◌-◌, ◌==◌, ℕ, suc, List, [], ◌∷◌, ◌++◌, Bool, false, length, take, drop, get_or, ◌∙◌, refl, arith, inl, inr}
-use Rattle.std.proofs.lemmas.Bool.{cases_Bool, eqb-true, and_right}
+use Rattle.std.proofs.Common.{◌≡◌, ◌<◌, ◌≤◌, ◌+◌, ◌-◌, ◌==◌, ℕ, suc, List, [], ◌∷◌, ◌++◌, Bool, false, length, take, drop, get_or, ◌∙◌, ap, refl, arith, inl, inr}
+use Rattle.std.proofs.lemmas.Bool.{false_from_ne_true, and_parts, ne_eqb, and_left, cases_Bool, eqb-true, and_right}
 use Rattle.std.proofs.lemmas.Bool.Decides.{nat_tests}
 use Rattle.std.proofs.lemmas.List.{length-take-le, length-append, length-drop, take-take, take_more, drop-take, get_or-drop, drop-drop, drop_all, take_rest}
 use Rattle.std.proofs.lemmas.List.Sums.{passes_at_first}
 use Rattle.std.specs.List.{position_or_len}
+use Rattle.std.proofs.lemmas.Slice.Eq.{bytes_eq-Decides}
+use Rattle.std.specs.Str.{bytes_eq}
 use Rattle.em_manifest.specs.Lines.{Line, lines, begin_with, is_line_feed}
 use Rattle.em_manifest.specs.declared.lines.Line.{Line as Place}
 use Rattle.em_manifest.specs.Places.{ends_return, line_in, IsLineAt}
@@ -23,7 +25,11 @@ ending_length : (k : ℕ) (t : List ℕ) → k ≤ length t → length (cut_at k
 ending_length k t h = omega (arith, length-append (drop (length t - k) t) (10 ∷ []), length-drop (length t - k) t)
 
 no_feed_by : (l : Line) (m k : ℕ) → length l.text + k ≡ m → length l.ending ≡ k + 1 → 0 < m → is_line_feed l ≡ false
-no_feed_by l m k a b some = grind (arith, nat_tests)
+no_feed_by l m k a b some =
+    false_from_ne_true (is_line_feed l) (
+    λ h. let (empty, feed) = and_parts (length l.text == 0) (bytes_eq l.ending (10 ∷ [])) h in
+    absurd (omega (arith, eqb-true (length l.text) 0 empty, ap length ((bytes_eq-Decides l.ending (10 ∷ [])).0 feed)))
+    )
 
 no_feed : (k c : ℕ) (t : List ℕ) → k ≤ 1 → is_line_feed (cut_at k (c ∷ t)) ≡ false
 no_feed k c t small = no_feed_by (cut_at k (c ∷ t)) (length (c ∷ t)) k (text_length k (c ∷ t) (omega arith)) (ending_length k (c ∷ t) (omega arith)) (omega arith)
@@ -69,7 +75,7 @@ lines_first (b ∷ bs) h = elim (cases_Bool (b == 10)) [
 ]
 
 no_lone_feed : (c : ℕ) (bs : List ℕ) → is_line_feed (record { text = c ∷ bs; ending = [] }) ≡ false
-no_lone_feed c bs = grind (arith, nat_tests)
+no_lone_feed c bs = and_left (length (c ∷ bs) == 0) (bytes_eq [] (10 ∷ [])) (ne_eqb (length (c ∷ bs)) 0 (λ h. absurd (omega (arith, h))))
 
 -- the only line where there is none
 pub lines_last : (xs : List ℕ) → position_or_len is_feed xs ≡ length xs → 0 < length xs → lines xs ≡ record { text = xs; ending = [] } ∷ []

@@ -13,7 +13,7 @@ pub record Line : Type 0 where
 
 -- the line is a line feed alone
 abbrev pub is_line_feed : Line → Bool
-is_line_feed l = (length l.text == 0) && (length l.ending == 1)
+is_line_feed l = (length l.text == 0) && bytes_eq l.ending (10 ∷ [])
 
 -- the lines with one byte more at their front, which is no line feed
 abbrev pub begin_with : ℕ → List Line → List Line

@@ -4,6 +4,7 @@
 mod change;
 mod dependencies;
 mod forms;
+mod laws;
 mod lines;
 mod manifest;
 mod read;
@@ -12,6 +13,7 @@ mod set;
 mod tests;
 mod values;
 
+pub use laws::lines_are_all;
 pub use manifest::{Dependency, Manifest, ManifestError, ManifestKind};
 pub use read::read_manifest;
 pub use set::set_edition;
