@@ -1,4 +1,4 @@
-use Rattle.std.proofs.Common.{◌≡◌, ◌∙◌, Some, option_map, ap, sym}
+use Rattle.std.proofs.Common.{◌∙◌, option_map, ap, sym}
 use Rattle.toml.specs.View.{table_view}
 use Rattle.em_manifest.specs.Lines.{edited}
 use Rattle.em_manifest.specs.Values.{manifest_from, tells_edition}
