@@ -1,0 +1,10 @@
+use Rattle.std.proofs.Common.{◌-◌, length}
+use Rattle.em_manifest.specs.Lines.{is_edition_line, own_lines}
+use Rattle.em_manifest.proofs.Walks.{Walked}
+use Rattle.em_manifest.proofs.lines.next_edition_line.Given as goal
+
+abbrev pub invariant-loop-at : goal.invariant-loop-at
+invariant-loop-at l = Walked own_lines is_edition_line l.bytes l.from l.at
+
+abbrev pub decreases-loop-at : goal.decreases-loop-at
+decreases-loop-at l = length l.bytes - l.at
