@@ -51,10 +51,12 @@ fn identifiers(rt: HostRuntime) -> Result<(), Fail> {
         ("dyn", "dyn"),
         ("\u{6771}\u{4eac}", "\u{6771}\u{4eac}"),
     ] {
-        match is_name(alloc, text)? {
-            Some(found) => assert_eq!(rt; found.as_bytes(), name.as_bytes()),
-            None => assert_eq!(rt; text, name),
-        }
+        let found = is_name(alloc, text)?;
+        let bytes = match &found {
+            Some(found) => found.as_bytes(),
+            None => b"".as_slice(),
+        };
+        assert_eq!(rt; bytes, name.as_bytes(), "{text}");
     }
     for text in ["", "_", "9a", "a-b", "r#a", "\u{301}e", "a "] {
         assert!(rt; is_name(alloc, text)?.is_none());

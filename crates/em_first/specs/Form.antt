@@ -5,12 +5,13 @@ use Rattle.std.specs.Str.{bytes_eq}
 use Rattle.em_base.specs.declared.edition.Edition.{Edition}
 use Rattle.em_base.specs.declared.edition.Edition.TheVariants.{E2015, E2018, E2021}
 use Rattle.em_base.specs.declared.token.Token.{Token}
+use Rattle.em_base.specs.Words.{always}
 use Rattle.em_lex.specs.Spelling.{is_digit, is_word, is_raw_word}
 use Rattle.em_first.specs.Keyword.{is_taken}
 
 -- the keywords of every edition, strict and reserved (Reference, "Keywords")
 abbrev pub old_keywords : List (List ℕ)
-old_keywords = codes "as" ∷ codes "break" ∷ codes "const" ∷ codes "continue" ∷ codes "crate" ∷ codes "else" ∷ codes "enum" ∷ codes "extern" ∷ codes "false" ∷ codes "fn" ∷ codes "for" ∷ codes "if" ∷ codes "impl" ∷ codes "in" ∷ codes "let" ∷ codes "loop" ∷ codes "match" ∷ codes "mod" ∷ codes "move" ∷ codes "mut" ∷ codes "pub" ∷ codes "ref" ∷ codes "return" ∷ codes "self" ∷ codes "Self" ∷ codes "static" ∷ codes "struct" ∷ codes "super" ∷ codes "trait" ∷ codes "true" ∷ codes "type" ∷ codes "unsafe" ∷ codes "use" ∷ codes "where" ∷ codes "while" ∷ codes "abstract" ∷ codes "become" ∷ codes "box" ∷ codes "do" ∷ codes "final" ∷ codes "macro" ∷ codes "override" ∷ codes "priv" ∷ codes "typeof" ∷ codes "unsized" ∷ codes "virtual" ∷ codes "yield" ∷ []
+old_keywords = always
 
 -- the words that an edition takes beside them
 abbrev pub takes : Edition → List ℕ → Bool

@@ -5,10 +5,11 @@ use Rattle.std.specs.Str.{bytes_eq}
 use Rattle.em_base.specs.declared.edit.Lint.TheVariants.{Keyword}
 use Rattle.em_base.specs.declared.edit.Suggestion.{Suggestion}
 use Rattle.em_base.specs.declared.token.Token.{Token}
+use Rattle.em_base.specs.Words.{from_2018}
 
 -- the keywords from 2018 on that no edition before has
 abbrev pub new_keywords : List (List ℕ)
-new_keywords = codes "async" ∷ codes "await" ∷ codes "dyn" ∷ codes "try" ∷ []
+new_keywords = from_2018
 
 -- the spelling of a word that 2018 takes; a raw word begins with `r#`, and is none of these
 abbrev pub is_taken : List ℕ → Bool

@@ -1,14 +1,15 @@
 -- A program with all that is found in it applied is moved.
-use Rattle.std.proofs.Common.{◌≡◌, ℕ, List, refl, subst, ap, ◌∙◌}
+use Rattle.std.proofs.Common.{[], true, false, ◌≤◌, ◌<◌, ◌+◌, ◌^◌, suc, arith, length, map, filter, cond, Bool, ◌∷◌, ◌≡◌, ℕ, List, refl, subst, ap, ◌∙◌}
+use Rattle.em_base.specs.declared.edit.Suggestion.{Suggestion}
 use Rattle.em_base.specs.declared.edition.Edition.{Edition}
 use Rattle.em_base.specs.declared.edition.Edition.TheVariants.{E2015, E2018}
 use Rattle.em_base.specs.declared.token.Token.{Token}
 use Rattle.em_edit.specs.Edited.{edited}
 use Rattle.em_first.specs.Events.{Events, first_events}
 use Rattle.em_first.specs.Form.{Statement, FirstCore, FirstForm}
-use Rattle.em_first.specs.Keyword.{findings, is_found}
+use Rattle.em_first.specs.Keyword.{findings, finding, is_found}
 use Rattle.em_first.specs.Laws.{OneCore, KeepsCore, NothingLeft, EditedLexes}
-use Rattle.em_lex.specs.Laws.{OneLexing}
+use Rattle.em_lex.specs.Laws.{OneLexing, TokensInText, LieInOrder, LieInText}
 use Rattle.em_lex.specs.Lexing.{Lexes}
 use Rattle.em_lex.specs.Marking.{moved}
 use Rattle.em_fix.specs.Source.{IsProgram, IsNoProgram, Prints, EditsMove}
@@ -50,3 +51,29 @@ no_lexing text none tokens core program = none tokens program.lexes
 pub no_form : OneLexing → (text : List ℕ) (tokens : List Token) → Lexes 0 E2015 0 text tokens → (FirstForm E2015 tokens → ⊥) → IsNoProgram text
 no_form lexing text tokens h none other core program =
     none (core, subst (λ ts. FirstCore E2015 ts core) (lexing 0 E2015 0 text other tokens program.lexes h) program.form)
+
+-- tokens that lie in a text from an offset on are no more than its bytes from there on
+few_tokens : (file : ℕ) (edition : Edition) (offset : ℕ) (text : List ℕ) (ts : List Token) → offset ≤ length text → LieInOrder file edition offset text ts → offset + length ts ≤ length text
+few_tokens file edition offset text [] le h = omega (arith, le)
+few_tokens file edition offset text (t ∷ ts) le h =
+    let rest = few_tokens file edition t.span.end text ts h.0.within h.1 in
+    let behind = h.0.behind in
+    let some = h.0.some in
+    omega (arith, rest, behind, some)
+
+found_among : (ts : List Token) → length (findings ts) ≤ length ts
+found_among [] = omega arith
+found_among (t ∷ ts) = here (is_found t) (found_among ts)
+  where
+    here : (c : Bool) → length (findings ts) ≤ length ts → length (map finding (cond c (t ∷ filter is_found ts) (filter is_found ts))) ≤ suc (length ts)
+    here true h = omega (arith, h)
+    here false h = omega (arith, h)
+
+-- there are no more findings than bytes
+pub few_findings : TokensInText → (text : List ℕ) (ts : List Token) (found : List Suggestion) → Lexes 0 E2015 0 text ts → found ≡ findings ts → length text ≤ 4194304 → length found < 2 ^ 32
+few_findings lie text ts found h is short =
+    let lies = lie 0 E2015 text ts h in
+    let few = few_tokens 0 E2015 0 text ts (omega arith) lies.ordered in
+    let among = found_among ts in
+    let same : length found ≡ length (findings ts) = ap length is in
+    omega (arith, few, among, same, short)

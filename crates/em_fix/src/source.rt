@@ -1,4 +1,4 @@
-ghost use Rattle.std.specs.Prelude.{◌≡◌, ◌≤◌, [], ◌∷◌, length, MatchOption, IfOk};
+ghost use Rattle.std.specs.Prelude.{◌≡◌, ◌≤◌, ◌<◌, ◌^◌, [], ◌∷◌, length, MatchOption, IfOk};
 ghost use Rattle.em_edit.specs.Edited.{edited};
 ghost use Rattle.em_edit.specs.Fit.{AreApplicable};
 ghost use Rattle.em_fix.specs.Source.{IsNoProgram, MovesSource, EditsMove};
@@ -43,24 +43,30 @@ fn with_edits(
     source: Bytes,
     found: &List<Suggestion>,
 ) -> Result<(Bytes, Bytes), NoMemory>
-    requires { AreApplicable (source ∷ []) found.now }
+    requires few { length found.now < 2 ^ 32 }
+    requires fit { AreApplicable (source ∷ []) found.now }
     ensures { IfOk result (λ pair. (pair.0 ≡ source) × (pair.1 ≡ edited 0 found.now source)) }
 {
     let mut sources = List::new(alloc);
     sources.push(source)?;
     match apply(alloc, &sources, found) {
         Ok(edited) => Ok((only(sources), only(edited))),
-        Err(BadEdit::NoMemory) => Err(NoMemory),
+        Err(error) => {
+            let is_memory = matches!(error, BadEdit::NoMemory);
+            prove!(is_memory);
+            Err(NoMemory)
+        }
     }
 }
 
 /// The source of the next edition, where it is a program of the first form.
-#[tactic(auto, using(crate::proofs::Sources::no_lexing, crate::proofs::Sources::no_form))]
+#[tactic(auto, using(crate::proofs::Sources::no_lexing, crate::proofs::Sources::no_form, crate::proofs::Sources::few_findings))]
 pub fn moved_source(alloc: Global, source: Bytes) -> Result<Option<MovedSource>, NoMemory>
     requires { length source ≤ 4194304 }
     ensures { IfOk result (λ answer. MatchOption answer (IsNoProgram source) (λ moved. (moved.old ≡ source) × MovesSource source moved.new moved.found)) }
 {
     em_lex::lexing_is_one();
+    em_lex::tokens_lie_in_text();
     em_first::findings_fit();
     edited_programs_are_moved();
     let tokens = match lex(

@@ -1,46 +1,44 @@
 -- `find` shares its array as a slice and passes that on. Assumes `Logic`.
 use mathlib.Core.Path.{◌≡◌, refl, sym, ap}
-use Prim.Native.Nat.{ℕ, ◌*◌, ◌<◌, ◌≤◌, ◌^◌}
+use Prim.Native.Nat.{ℕ, ◌*◌, ◌<◌, ◌^◌}
 use mathlib.Core.List.{List, [], ◌∷◌}
 use lib.Dec.{T}
 use lib.ListN.{length}
 use seplogic.Ra.Ura.{Ura}
 use base.Logic.{SProp, ent, sep, emp, id⊢}
 use base.Fml.{ftrue, flft}
-use mir.Syntax.{Fn, Args, Callee, w64, named, a_number}
+use mir.Syntax.{Fn, named, a_number}
 use mir.MapTy.{inst_fn}
-use mir.Val.{Val, Fits, has_ty, WT}
-use prog.Memory.{Memory, size}
+use mir.Val.{Val, has_ty, WT}
+use prog.Memory.{Memory}
 use prog.Routine.{Routine}
-use prog.Wp.{Env, WpFn, Tables}
+use prog.Wp.{WpFn, Tables}
 use types.Logic.{Logic, sem}
 use contract.BorrowLft.{◌⊑◌}
-use contract.Lifetimes.{Lfts}
 use contract.Monad.{Fun, fact, fact_i}
 use contract.Running.{tables, tables_of}
 use sound.WpLaws.{fm_of, WpFn-mono}
-use types.Kit.{‵, raw, ◌⊛◌, given, some, later, learn, ◌$◌, ◌∵◌, !, qed, by, move, drop, use0, use1, use2, split, split3, join, fsplit, fjoin, feq_i, group, pick, rewrite, suffices, await, done}
+use types.Kit.{‵, raw, ◌⊛◌, given, some, later, learn, ◌$◌, ◌∵◌, !, qed, by, move, drop, use0, use1, use2, split, split3, join, fsplit, fjoin, feq_i, group, pick, suffices, await, done}
 use types.Part.{agg}
 use types.Run.{stop, addr, num_lit, no_more, and_then, returns, enter}
-use types.ByLocal.{alloc_all, pass_all, free_all, look_at, get, through, sets, lands_as, env}
+use types.ByLocal.{alloc_all, pass_all, free_all, look_at, get, through, sets, lands_as}
 use denote.RattleType.{RattleType, owns}
 use denote.Signature.{plain, types_at}
-use denote.Steps.{heard, nothing, only, peeks}
+use denote.Steps.{heard, nothing, peeks}
 use denote.Exit.{yes}
 use denote.Laws.{Is, shows}
-use denote.Ref.{shr_vals, shr_Tells}
-use denote.Such.{such_Tells}
+use denote.Ref.{shr_vals}
 use denote.Builtin.{usize, RefOf}
 use denote.Text.{StrRefOf}
 use denote.Param.{param, number, layout, layouts, ArrayAt}
-use denote.Slice.{Room, ShrSlice, slice_val, shr_slice_vals, shr_slice_Tells}
+use denote.Slice.{slice_val, shr_slice_vals}
 use denote.Triple.Call.{calls_at}
 use denote.Triple.Clauses.{Clauses, Ended, Lasts, lasts, closing}
 use denote.Triple.Entry.{alive}
 use denote.Triple.Spec.{Meets, triple_of}
 use denote.Triple.Statement.{Contract, Triple}
 use denote.Triple.Table.{entered}
-use denote.Triple.Walked.{says, Stays, stay_dropped, walk_of, ends_at, walked, Goes-dropped, walk_Meets}
+use denote.Triple.Walked.{Stays, stay_dropped, walk_of, ends_at, walked, Goes-dropped, walk_Meets}
 use borrow.Rule.Array.AsSlice.{shr_arr_slice_any}
 use Rattle.std.specs.contracts.option.Option as OP
 use Rattle.std.proofs.option.Option.TheLaws.{the_row_laws as option_laws}
