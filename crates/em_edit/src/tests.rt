@@ -1,17 +1,109 @@
-use crate::{BadEdit, apply};
-use em_base::{Bytes, List};
+ghost use Rattle.std.specs.Prelude.{◌≡◌, ◌<◌, ◌^◌, length, IfOk};
+
+use crate::{BadEdit, apply, select};
+use em_base::{Bytes, Lint, List, NoMemory, Part, Span, Suggestion, Text};
 use std::alloc::Global;
 
-/// The texts after no suggestion.
-fn after_none(alloc: Global) -> Result<List<Bytes>, BadEdit> {
+/// A part of a file: (file, start, end) and its text.
+type Row = (u32, u32, u32, &'static str);
+
+/// A suggestion of one part, whose range is its anchor.
+fn suggestion(alloc: Global, row: &Row) -> Result<Suggestion, NoMemory> {
+    let span = Span {
+        file: row.0,
+        start: row.1,
+        end: row.2,
+    };
+    let mut parts = List::new(alloc);
+    parts.push(Part {
+        span,
+        text: Text::from_str(alloc, row.3)?,
+    })?;
+    Ok(Suggestion {
+        lint: Lint::Keyword,
+        anchor: span,
+        parts,
+    })
+}
+
+/// A suggestion for each row.
+fn suggestions(alloc: Global, rows: &[Row]) -> Result<List<Suggestion>, NoMemory>
+    ensures { IfOk result (λ list. length list ≡ length rows.now) }
+{
+    let mut list = List::new(alloc);
+    for row in rows {
+        list.push(suggestion(alloc, row)?)?;
+    }
+    Ok(list)
+}
+
+/// The text of the only file after a suggestion for each row.
+fn applied(alloc: Global, text: &str, rows: &[Row]) -> Result<List<Bytes>, BadEdit>
+    requires { length rows.now < 2 ^ 32 }
+{
     let mut sources = List::new(alloc);
-    sources.push(Bytes::from_slice(alloc, b"ab")?)?;
-    apply(alloc, &sources, &List::new(alloc))
+    sources.push(Bytes::from_slice(alloc, text.as_bytes())?)?;
+    let taken = suggestions(alloc, rows)?;
+    apply(alloc, &sources, &taken)
 }
 
 #[test]
-fn no_suggestion_keeps_the_text(rt: HostRuntime) {
-    let new = after_none(rt.alloc()).expect(&rt, "memory");
-    let texts = new.as_slice();
-    assert!(rt; texts.len() == 1 && texts[0].as_slice() == b"ab".as_slice());
+fn parts_are_put_into_the_text(rt: HostRuntime) {
+    let rows: [(&str, [Row; 2], &str); 7] = [
+        ("abcdef", [(0, 1, 3, "X"), (0, 4, 4, "Y")], "aXdYef"),
+        ("abcdef", [(0, 4, 5, "Y"), (0, 0, 1, "")], "bcdYf"),
+        ("abc", [(0, 3, 3, ">"), (0, 0, 0, "<")], "<abc>"),
+        ("abcd", [(0, 3, 3, "Y"), (0, 1, 3, "X")], "aXYd"),
+        ("abcd", [(0, 1, 1, "Y"), (0, 2, 3, "X")], "aYbXd"),
+        ("abcd", [(0, 0, 2, "X"), (0, 2, 4, "Y")], "XY"),
+        ("a\u{e9}b", [(0, 1, 3, "e"), (0, 0, 1, "A")], "Aeb"),
+    ];
+    for (text, parts, expected) in rows {
+        let new = applied(rt.alloc(), text, parts.as_slice()).expect(&rt, "applied");
+        let texts = new.as_slice();
+        assert!(rt; texts.len() == 1 && texts[0].as_slice() == expected.as_bytes());
+    }
+}
+
+#[test]
+fn the_first_fault_of_the_first_bad_one_is_told(rt: HostRuntime) {
+    let rows: [(&str, [Row; 2], BadEdit); 11] = [
+        ("ab", [(0, 0, 0, "x"), (0, 0, 0, "y")], BadEdit::Overlap { which: 1 }),
+        ("abcd", [(0, 0, 2, "x"), (0, 1, 3, "y")], BadEdit::Overlap { which: 1 }),
+        ("abcd", [(0, 2, 4, "x"), (0, 0, 3, "y")], BadEdit::Overlap { which: 1 }),
+        ("abcd", [(0, 1, 3, "x"), (0, 2, 2, "y")], BadEdit::Overlap { which: 1 }),
+        ("abcd", [(0, 2, 2, "x"), (0, 1, 3, "y")], BadEdit::Overlap { which: 1 }),
+        ("ab", [(0, 1, 3, "x"), (0, 0, 0, "y")], BadEdit::OutOfText { which: 0 }),
+        ("ab", [(0, 0, 0, "x"), (0, 2, 1, "y")], BadEdit::OutOfText { which: 1 }),
+        ("ab", [(1, 0, 0, "x"), (0, 0, 0, "y")], BadEdit::OutOfText { which: 0 }),
+        ("\u{e9}", [(0, 1, 1, "x"), (0, 0, 9, "y")], BadEdit::NotBoundary { which: 0 }),
+        ("\u{e9}", [(0, 0, 0, "x"), (0, 0, 1, "y")], BadEdit::NotBoundary { which: 1 }),
+        ("ab", [(0, 0, 0, "x"), (1, 0, 0, "y")], BadEdit::OutOfText { which: 1 }),
+    ];
+    for (text, parts, expected) in rows {
+        let error = applied(rt.alloc(), text, parts.as_slice()).expect_err(&rt, "refused");
+        assert!(rt; error == expected);
+    }
+}
+
+/// The indices that are taken of a finding for each row.
+fn selected(alloc: Global, rows: &[Row]) -> Result<List<u32>, NoMemory>
+    requires { length rows.now < 2 ^ 32 }
+{
+    select(alloc, &suggestions(alloc, rows)?)
+}
+
+#[test]
+fn findings_are_taken_in_the_order_of_their_anchors(rt: HostRuntime) {
+    let rows: [([Row; 3], &[u32]); 5] = [
+        ([(0, 5, 6, ""), (0, 1, 2, ""), (0, 3, 4, "")], &[1, 2, 0]),
+        ([(0, 0, 0, "a"), (0, 0, 0, "b"), (0, 1, 1, "c")], &[0, 2]),
+        ([(0, 0, 3, ""), (0, 2, 5, ""), (0, 4, 6, "")], &[0, 2]),
+        ([(1, 0, 3, ""), (0, 1, 4, ""), (0, 2, 2, "")], &[1, 0]),
+        ([(0, 1, 3, ""), (0, 1, 2, ""), (0, 3, 3, "")], &[1, 2]),
+    ];
+    for (parts, expected) in rows {
+        let taken = selected(rt.alloc(), parts.as_slice()).expect(&rt, "memory");
+        assert!(rt; taken.as_slice() == expected);
+    }
 }
