@@ -30,16 +30,7 @@ macro_rules! words {
 }
 
 /// The index of the text in a table with ascending texts, or `None` exactly where it isn't there. Takes no memory.
-pub fn find<const N: usize>(table: &[Word; N], text: &str) -> Option<usize>
-    requires { is_ascending (texts table.now) ≡ true }
-    ensures found { IfSome result (λ i. slice_get (texts table.now) i ≡ Some text.now) }
-    ensures absent { IfNone result (¬ (Contains (texts table.now) text.now)) }
-{
-    find_in(table, text)
-}
-
-/// `find` in a table of any length.
-fn find_in(table: &[Word], text: &str) -> Option<usize>
+pub fn find(table: &[Word], text: &str) -> Option<usize>
     requires { is_ascending (texts table.now) ≡ true }
     ensures found { IfSome result (λ i. slice_get (texts table.now) i ≡ Some text.now) }
     ensures absent { IfNone result (¬ (Contains (texts table.now) text.now)) }
@@ -70,7 +61,7 @@ fn has(table: &[Word], text: &str) -> bool
     requires { is_ascending (texts table.now) ≡ true }
     ensures { result ≡ is_among (texts table.now) text.now }
 {
-    find_in(table, text).is_some()
+    find(table, text).is_some()
 }
 
 /// The keywords, each with the edition that it is one from.
@@ -133,7 +124,7 @@ pub fn keyword_in(edition: Edition, name: &Name) -> Class
     ensures { result ≡ class_of edition name.now }
 {
     let table = keywords();
-    match find_in(&table, name.as_str()) {
+    match find(&table, name.as_str()) {
         None => Class::Ident,
         Some(index) => class_at(edition, table[index]),
     }

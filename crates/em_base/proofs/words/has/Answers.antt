@@ -4,4 +4,4 @@ use Rattle.em_base.proofs.Tables.{searched}
 use Rattle.em_base.proofs.words.has.Goals as goal
 
 pub returns : goal.returns
-returns c = c.is_some.ensures ∙ searched (texts c.args.table.now) c.args.text.now c.find_in.result c.find_in.ensures.found c.find_in.ensures.absent
+returns c = c.is_some.ensures ∙ searched (texts c.args.table.now) c.args.text.now c.find.result c.find.ensures.found c.find.ensures.absent

@@ -1,7 +1,7 @@
 use Rattle.std.proofs.Common.{◌-◌}
 use Rattle.em_base.specs.Words.{texts}
 use Rattle.em_base.proofs.Tables.{Between}
-use Rattle.em_base.proofs.words.find_in.Given as goal
+use Rattle.em_base.proofs.words.find.Given as goal
 
 abbrev pub invariant-halves : goal.invariant-halves
 invariant-halves l = Between (texts l.table) l.text l.low l.high

@@ -1,7 +1,7 @@
 use Rattle.std.proofs.Common.{◌<◌, ◌+◌, ◌-◌, ◌/◌, length, arith, sym, ◌∙◌}
 use Rattle.em_base.specs.Words.{texts}
 use Rattle.em_base.proofs.Tables.{there, not_there, less_up_to, greater_from, length-texts}
-use Rattle.em_base.proofs.words.find_in.Goals as goal
+use Rattle.em_base.proofs.words.find.Goals as goal
 
 pub halves-init : goal.halves-init
 halves-init c = record { ordered = omega arith; within = omega (arith, length-texts c.args.table.now); less = λ k h. absurd (omega arith); greater = λ k h w. absurd (omega (arith, length-texts c.args.table.now)) }
