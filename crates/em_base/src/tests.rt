@@ -1,4 +1,7 @@
-use crate::{Bytes, List, Name, Text, between, rest_from};
+use crate::{
+    Bytes, Class, Edition, List, Name, Text, Word, between, find, is_integer_suffix,
+    is_known_prefix, is_name, keyword_in, rest_from,
+};
 use std::process::Abort;
 use std::test::Fail;
 
@@ -34,5 +37,53 @@ fn lists_and_bytes(rt: HostRuntime) -> Result<(), Fail> {
     let copy = Bytes::from_slice(alloc, bytes.as_slice())?;
     assert_eq!(rt; List::from_vec(copy.into_vec()).len(), 4);
     assert_eq!(rt; Bytes::new(alloc).len(), 0);
+    Ok(())
+}
+
+#[test]
+fn identifiers(rt: HostRuntime) -> Result<(), Fail> {
+    let alloc = rt.alloc();
+    for (text, name) in [
+        ("e\u{301}", "\u{e9}"),
+        ("\u{212b}ngstrom", "\u{c5}ngstrom"),
+        ("_identifier", "_identifier"),
+        ("__", "__"),
+        ("dyn", "dyn"),
+        ("\u{6771}\u{4eac}", "\u{6771}\u{4eac}"),
+    ] {
+        match is_name(alloc, text)? {
+            Some(found) => assert_eq!(rt; found.as_bytes(), name.as_bytes()),
+            None => assert_eq!(rt; text, name),
+        }
+    }
+    for text in ["", "_", "9a", "a-b", "r#a", "\u{301}e", "a "] {
+        assert!(rt; is_name(alloc, text)?.is_none());
+    }
+    Ok(())
+}
+
+#[test]
+fn words(rt: HostRuntime) -> Result<(), Fail> {
+    let alloc = rt.alloc();
+    for (text, in_2015, from_2018) in [
+        ("dyn", Class::Weak, Class::Keyword),
+        ("async", Class::Ident, Class::Keyword),
+        ("try", Class::Ident, Class::Keyword),
+        ("Self", Class::Keyword, Class::Keyword),
+        ("yield", Class::Keyword, Class::Keyword),
+        ("union", Class::Ident, Class::Ident),
+        ("gen", Class::Ident, Class::Ident),
+    ] {
+        let name = Name::from_ascii(alloc, text.as_bytes())?;
+        assert_eq!(rt; keyword_in(Edition::E2015, &name), in_2015);
+        assert_eq!(rt; keyword_in(Edition::E2018, &name), from_2018);
+        assert_eq!(rt; keyword_in(Edition::E2021, &name), from_2018);
+    }
+    let since = Edition::E2015;
+    let table = [Word { text: "a", since }, Word { text: "b", since }];
+    assert_eq!(rt; find(&table, "b"), Some(1));
+    assert_eq!(rt; find(&table, "c"), None);
+    assert!(rt; is_known_prefix("br") & !is_known_prefix("c"));
+    assert!(rt; is_integer_suffix("usize") & !is_integer_suffix("f32"));
     Ok(())
 }
