@@ -2,36 +2,46 @@ use em_base::{Edition, List, Name, Text};
 use thiserror::Error;
 
 /// Why a manifest is refused, in the order in which the causes are looked for.
-#[derive(Clone, Copy, Debug, PartialEq, Eq)]
+#[derive(Clone, Copy, Debug, Error, PartialEq, Eq)]
 pub enum ManifestKind {
     /// There is no manifest.
+    #[error("there is no manifest")]
     NoFile,
     /// It is no TOML document.
+    #[error("the manifest is no TOML document")]
     NotToml,
     /// `package.name` is no name.
+    #[error("`package.name` is no name")]
     NoName,
     /// `package.edition` is no known year.
+    #[error("`package.edition` is no known year")]
     BadEdition,
     /// The line that tells the edition can't be set.
+    #[error("the line of the edition can't be set")]
     EditionLine,
     /// A dependency has another form than a path, or two give one name.
+    #[error("a dependency is no path with a name of its own")]
     BadDependency,
     /// It has a section that stands for more than one crate.
+    #[error("a section stands for more than one crate")]
     Section,
     /// There is no target.
+    #[error("there is no target")]
     NoTarget,
     /// There are both a library and a program.
+    #[error("there are both a library and a program")]
     TwoTargets,
     /// A dependency reaches itself.
+    #[error("a dependency reaches itself")]
     Cycle,
 }
 
 /// Why there is no answer for a manifest.
-#[derive(Debug, Drop, Error)]
+#[derive(Clone, Copy, Debug, Error, PartialEq, Eq)]
 pub enum ManifestError {
-    #[error("memory is wanting")]
+    #[error("out of memory")]
     NoMemory,
-    #[error("the manifest is refused: {0:?}")]
+    #[error("{0}")]
     Bad(ManifestKind),
 }
 
