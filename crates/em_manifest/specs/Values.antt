@@ -1,9 +1,11 @@
 -- What a manifest's table says of the package, and the first kind of fault where it says nothing.
-use Rattle.std.specs.Prelude.{◌≡◌, ℕ, Bool, true, false, not, ◌&&◌, ◌||◌, ◌==◌, nat_le, if◌then◌else◌, List, [], ◌∷◌, map, codes, Option, Some, None, IfSome, is_some, option_and_then, Result, Ok, Err}
+use Rattle.std.specs.Prelude.{◌≡◌, ℕ, chars, encode_utf8_all, Bool, true, false, not, ◌&&◌, ◌||◌, ◌==◌, nat_le, if◌then◌else◌, List, [], ◌∷◌, map, codes, Option, Some, None, IfSome, is_some, option_and_then, Result, Ok, Err}
 use Rattle.std.specs.List.{list_any, list_all, find}
 use Rattle.std.specs.Str.{bytes_eq, is_utf8}
 use Rattle.toml.specs.Data.{Data, Members, no_members, member, get, get_member, as_str, as_table, is_before}
 use Rattle.toml.specs.Parse.{parse_document}
+use Rattle.unicode_normalization.specs.Forms.{nfc}
+use Rattle.em_base.specs.Names.{is_identifier}
 use Rattle.em_base.specs.declared.edition.Edition.{Edition}
 use Rattle.em_base.specs.declared.edition.Edition.TheVariants.{E2015}
 use Rattle.em_manifest.specs.Lines.{year_of, editions}
@@ -16,44 +18,33 @@ use Rattle.em_manifest.specs.declared.manifest.ManifestKind.TheVariants.{NotToml
 abbrev pub package_value : List ℕ → Members → Option Data
 package_value key doc = option_and_then (get key) (get_member (codes "package") doc)
 
-abbrev pub is_letter : ℕ → Bool
-is_letter b = (nat_le 97 b && nat_le b 122) || (nat_le 65 b && nat_le b 90)
-
-abbrev pub is_digit : ℕ → Bool
-is_digit b = nat_le 48 b && nat_le b 57
-
--- a letter or an underscore, which may begin an identifier
-abbrev pub is_name_start : ℕ → Bool
-is_name_start b = is_letter b || (b == 95)
-
-abbrev pub is_name_byte : ℕ → Bool
-is_name_byte b = is_name_start b || is_digit b
-
--- each byte may go on an identifier
-abbrev pub goes_on : List ℕ → Bool
-goes_on text = list_all is_name_byte text
-
--- an identifier of ASCII bytes (Reference, "Identifiers"), which the lone underscore is not
-abbrev pub is_name : List ℕ → Bool
-is_name [] = false
-is_name (b ∷ []) = is_letter b
-is_name (b ∷ bs) = is_name_start b && goes_on bs
+-- an ASCII letter, a digit, a dash or an underscore
+abbrev pub is_package_byte : ℕ → Bool
+is_package_byte b = ((nat_le 97 b && nat_le b 122) || (nat_le 65 b && nat_le b 90)) || (nat_le 48 b && nat_le b 57) || (b == 45) || (b == 95)
 
 -- an underscore for a dash
 abbrev pub underscore : ℕ → ℕ
-underscore b = if b == 45 then 95 else b
+underscore c = if c == 45 then 95 else c
 
--- the text with underscores for dashes
+-- the characters of the text with underscores for dashes
 abbrev pub underscored : List ℕ → List ℕ
-underscored text = map underscore text
+underscored text = map underscore (chars text)
+
+-- the name that characters spell, in Unicode Normalization Form C
+abbrev pub name_of : List ℕ → Option (List ℕ)
+name_of cs = if is_identifier cs then Some (encode_utf8_all (nfc cs)) else None
+
+-- the crate's name that a key gives
+abbrev pub crate_name : List ℕ → Option (List ℕ)
+crate_name text = name_of (underscored text)
 
 -- the crate's name that a package's name gives
-abbrev pub crate_name : List ℕ → Option (List ℕ)
-crate_name text = if is_name (underscored text) then Some (underscored text) else None
+abbrev pub package_name : List ℕ → Option (List ℕ)
+package_name text = if list_all is_package_byte text then crate_name text else None
 
 -- `package.name`
 abbrev pub name_in : Members → Option (List ℕ)
-name_in doc = option_and_then crate_name (option_and_then as_str (package_value (codes "name") doc))
+name_in doc = option_and_then package_name (option_and_then as_str (package_value (codes "name") doc))
 
 -- the edition that a year names
 abbrev pub edition_named : List ℕ → Option Edition

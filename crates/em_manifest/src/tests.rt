@@ -46,6 +46,10 @@ fn reads(rt: HostRuntime) -> Result<(), Fail> {
     assert_eq!(rt; manifest.name.as_str(), "_a");
     assert!(rt; manifest.edition == Edition::E2015);
     assert_eq!(rt; manifest.dependencies.len(), 0);
+    let text = "[package]\nname = \"a\"\n[dependencies]\n\"e\u{301}-b\" = { path = \"e\" }\n";
+    let manifest = read_manifest(alloc, text.as_bytes())?;
+    let name = manifest.dependencies.get(0).map(|d| d.name.as_str());
+    assert!(rt; name == Some("\u{e9}_b"));
     Ok(())
 }
 

@@ -1,9 +1,10 @@
-ghost use Rattle.std.specs.Prelude.{◌≡◌, IfOk, is_some, option_map, option_copied, option_and_then};
+ghost use Rattle.std.specs.Prelude.{◌≡◌, IfOk, encode_utf8_all, string_bytes, is_some, option_map, option_copied, option_and_then};
+ghost use Rattle.std.specs.List.{list_all};
 ghost use Rattle.toml.specs.Data.{get_member, as_str};
 ghost use Rattle.toml.specs.View.{view, table_view};
 ghost use Rattle.em_manifest.specs.Values as spec;
 
-use em_base::{Edition, Name, NoMemory};
+use em_base::{Edition, Name, NoMemory, is_name};
 use std::alloc::Global;
 use toml::{Table, Value};
 
@@ -34,71 +35,55 @@ pub fn text_of(value: Option<&Value>) -> Option<&str>
     }
 }
 
-/// Whether the byte is an ASCII letter.
-fn is_letter(byte: u8) -> bool
-    ensures { result ≡ spec.is_letter byte }
+/// Whether the byte is an ASCII letter, a digit, a dash or an underscore.
+fn is_package_byte(byte: u8) -> bool
+    ensures { result ≡ spec.is_package_byte byte }
 {
-    (b'a'..=b'z').contains(&byte) || (b'A'..=b'Z').contains(&byte)
+    matches!(byte, b'a'..=b'z' | b'A'..=b'Z' | b'0'..=b'9' | b'-' | b'_')
 }
 
-/// Whether the byte may begin an identifier.
-fn is_name_start(byte: u8) -> bool
-    ensures { result ≡ spec.is_name_start byte }
+/// Whether each byte may stand in a package's name.
+fn is_package_text(text: &[u8]) -> bool
+    ensures { result ≡ list_all spec.is_package_byte text.now }
 {
-    is_letter(byte) || byte == b'_'
-}
-
-/// Whether the byte may go on an identifier.
-fn is_name_byte(byte: u8) -> bool
-    ensures { result ≡ spec.is_name_byte byte }
-{
-    is_name_start(byte) || (b'0'..=b'9').contains(&byte)
-}
-
-/// Whether each byte may go on an identifier.
-fn goes_on(text: &[u8]) -> bool
-    ensures { result ≡ spec.goes_on text.now }
-{
-    text.iter().all(|byte| is_name_byte(*byte))
-}
-
-/// Whether the bytes are an identifier other than the lone underscore.
-fn is_name(text: &[u8]) -> bool
-    ensures { result ≡ spec.is_name text.now }
-{
-    match text {
-        [] => false,
-        [only] => is_letter(*only),
-        [first, rest @ ..] => is_name_start(*first) && goes_on(rest),
-    }
+    text.iter().all(|byte| is_package_byte(*byte))
 }
 
 /// An underscore for a dash.
-fn underscore(byte: u8) -> u8
-    ensures { result ≡ spec.underscore byte }
+fn underscore(character: char) -> char
+    ensures { result ≡ spec.underscore character }
 {
-    if byte == b'-' { b'_' } else { byte }
+    if character == '-' { '_' } else { character }
 }
 
 /// The text with underscores for dashes.
-fn underscored(alloc: Global, text: &[u8]) -> Result<Vec<u8>, NoMemory>
-    ensures { IfOk result (λ v. v.items ≡ spec.underscored text.now) }
+fn underscored(alloc: Global, text: &str) -> Result<String, NoMemory>
+    ensures { IfOk result (λ s. string_bytes s ≡ encode_utf8_all (spec.underscored text.now)) }
 {
-    let bytes = text.iter().map(|byte| underscore(*byte)).collect(alloc)?;
-    Ok(bytes)
+    let text = text
+        .chars()
+        .map(|character| underscore(character))
+        .collect(alloc)?;
+    Ok(text)
+}
+
+/// The crate's name that a key gives.
+pub fn crate_name(alloc: Global, key: &str) -> Result<Option<Name>, NoMemory>
+    ensures { IfOk result (λ name. name ≡ spec.crate_name key.now) }
+{
+    let text = underscored(alloc, key)?;
+    is_name(alloc, text.as_str())
 }
 
 /// The crate's name that a package's name gives.
-#[tactic(auto, using(crate::proofs::Names::name_is_ascii))]
-pub fn crate_name(alloc: Global, text: &str) -> Result<Option<Name>, NoMemory>
-    ensures { IfOk result (λ name. name ≡ spec.crate_name text.now) }
+fn package_name(alloc: Global, text: &str) -> Result<Option<Name>, NoMemory>
+    ensures { IfOk result (λ name. name ≡ spec.package_name text.now) }
 {
-    let name = underscored(alloc, text.as_bytes())?;
-    if !is_name(&name) {
-        return Ok(None);
+    if is_package_text(text.as_bytes()) {
+        crate_name(alloc, text)
+    } else {
+        Ok(None)
     }
-    let name = Name::from_ascii(alloc, &name)?;
-    Ok(Some(name))
 }
 
 /// The package's name.
@@ -106,7 +91,7 @@ pub fn name_in(alloc: Global, document: &Table) -> Result<Option<Name>, NoMemory
     ensures { IfOk result (λ name. name ≡ spec.name_in (table_view document.now)) }
 {
     match text_of(package_value(document, "name")) {
-        Some(text) => crate_name(alloc, text),
+        Some(text) => package_name(alloc, text),
         None => Ok(None),
     }
 }

@@ -1,7 +1,7 @@
 use crate::manifest::ManifestKind;
 
 /// Manifests that both calls refuse, with the first fault.
-pub const REFUSED: [(&str, ManifestKind); 40] = [
+pub const REFUSED: [(&str, ManifestKind); 41] = [
     ("[package\nname = \"a\"\n", ManifestKind::NotToml),
     ("[package]\nname = a\n", ManifestKind::NotToml),
     (
@@ -72,6 +72,10 @@ pub const REFUSED: [(&str, ManifestKind); 40] = [
     ),
     (
         "[package]\nname = \"a\"\n[dependencies]\na-b = { path = \"x\" }\nb = { path = \"b\" }\na_b = { path = \"x\" }\n",
+        ManifestKind::BadDependency,
+    ),
+    (
+        "[package]\nname = \"a\"\n[dependencies]\n\"e\u{301}\" = { path = \"x\" }\n\"\u{e9}\" = { path = \"x\" }\n",
         ManifestKind::BadDependency,
     ),
     (
