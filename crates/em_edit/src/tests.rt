@@ -68,17 +68,61 @@ fn parts_are_put_into_the_text(rt: HostRuntime) {
 #[test]
 fn the_first_fault_of_the_first_bad_one_is_told(rt: HostRuntime) {
     let rows: [(&str, [Row; 2], BadEdit); 11] = [
-        ("ab", [(0, 0, 0, "x"), (0, 0, 0, "y")], BadEdit::Overlap { which: 1 }),
-        ("abcd", [(0, 0, 2, "x"), (0, 1, 3, "y")], BadEdit::Overlap { which: 1 }),
-        ("abcd", [(0, 2, 4, "x"), (0, 0, 3, "y")], BadEdit::Overlap { which: 1 }),
-        ("abcd", [(0, 1, 3, "x"), (0, 2, 2, "y")], BadEdit::Overlap { which: 1 }),
-        ("abcd", [(0, 2, 2, "x"), (0, 1, 3, "y")], BadEdit::Overlap { which: 1 }),
-        ("ab", [(0, 1, 3, "x"), (0, 0, 0, "y")], BadEdit::OutOfText { which: 0 }),
-        ("ab", [(0, 0, 0, "x"), (0, 2, 1, "y")], BadEdit::OutOfText { which: 1 }),
-        ("ab", [(1, 0, 0, "x"), (0, 0, 0, "y")], BadEdit::OutOfText { which: 0 }),
-        ("\u{e9}", [(0, 1, 1, "x"), (0, 0, 9, "y")], BadEdit::NotBoundary { which: 0 }),
-        ("\u{e9}", [(0, 0, 0, "x"), (0, 0, 1, "y")], BadEdit::NotBoundary { which: 1 }),
-        ("ab", [(0, 0, 0, "x"), (1, 0, 0, "y")], BadEdit::OutOfText { which: 1 }),
+        (
+            "ab",
+            [(0, 0, 0, "x"), (0, 0, 0, "y")],
+            BadEdit::Overlap { which: 1 },
+        ),
+        (
+            "abcd",
+            [(0, 0, 2, "x"), (0, 1, 3, "y")],
+            BadEdit::Overlap { which: 1 },
+        ),
+        (
+            "abcd",
+            [(0, 2, 4, "x"), (0, 0, 3, "y")],
+            BadEdit::Overlap { which: 1 },
+        ),
+        (
+            "abcd",
+            [(0, 1, 3, "x"), (0, 2, 2, "y")],
+            BadEdit::Overlap { which: 1 },
+        ),
+        (
+            "abcd",
+            [(0, 2, 2, "x"), (0, 1, 3, "y")],
+            BadEdit::Overlap { which: 1 },
+        ),
+        (
+            "ab",
+            [(0, 1, 3, "x"), (0, 0, 0, "y")],
+            BadEdit::OutOfText { which: 0 },
+        ),
+        (
+            "ab",
+            [(0, 0, 0, "x"), (0, 2, 1, "y")],
+            BadEdit::OutOfText { which: 1 },
+        ),
+        (
+            "ab",
+            [(1, 0, 0, "x"), (0, 0, 0, "y")],
+            BadEdit::OutOfText { which: 0 },
+        ),
+        (
+            "\u{e9}",
+            [(0, 1, 1, "x"), (0, 0, 9, "y")],
+            BadEdit::NotBoundary { which: 0 },
+        ),
+        (
+            "\u{e9}",
+            [(0, 0, 0, "x"), (0, 0, 1, "y")],
+            BadEdit::NotBoundary { which: 1 },
+        ),
+        (
+            "ab",
+            [(0, 0, 0, "x"), (1, 0, 0, "y")],
+            BadEdit::OutOfText { which: 1 },
+        ),
     ];
     for (text, parts, expected) in rows {
         let error = applied(rt.alloc(), text, parts.as_slice()).expect_err(&rt, "refused");
