@@ -1,4 +1,4 @@
-// Each row: a manifest, the year that is set, and the manifest with that year. `scripts/manifests-by-cargo` reads
+// Each row: a manifest, the year that is set, and the manifest with that year. `tools/manifests-by-cargo` reads
 // this table too.
 pub const ACCEPTED: [(&str, &str, &str); 17] = [
     (
