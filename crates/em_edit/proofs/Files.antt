@@ -1,5 +1,5 @@
 -- The parts of one file among the ordered parts of all.
-use Rattle.std.proofs.Common.{inl, inr, ◌≡◌, ℕ, ◌+◌, ◌<◌, ◌≤◌, Bool, true, eqb, leb, List, [], ◌∷◌, map, length, get_or, take, drop, refl, ap, sym, ◌∙◌, subst, arith, drop-drop, length-drop, Bor, Some}
+use Rattle.std.proofs.Common.{inl, inr, ◌≡◌, ℕ, zero, suc, ◌+◌, ◌<◌, ◌≤◌, Bool, true, eqb, leb, List, [], ◌∷◌, map, length, get_or, take, drop, refl, ap, sym, ◌∙◌, subst, arith, drop-drop, length-drop, Bor, Some}
 use Rattle.std.specs.Prelude.{All, AllPairs, filter, slice_get}
 use Rattle.std.specs.List.{prefix_len}
 use Rattle.std.specs.List.Sorted.{IsPermutation}
@@ -133,3 +133,23 @@ edited_more f taken sources files text same lt is =
     let here : f < length sources = subst (λ (fs : List (List ℕ)). f < length fs) same lt in
     let item : text ≡ get_or sources f text = is ∙ ap (λ (fs : List (List ℕ)). get_or fs f text) same in
     ap (edited_from f taken) (drop_more sources f text here) ∙ ap (λ (t : List ℕ). edited f taken t ∷ edited_from (f + 1) taken (drop (f + 1) sources)) (sym item)
+
+-- the text of a file among those after the suggestions
+pub edited_at : (first : ℕ) (taken : List Suggestion) (sources : List (List ℕ)) (i : ℕ) (text new : List ℕ) → slice_get sources i ≡ Some text → slice_get (edited_from first taken sources) i ≡ Some new → new ≡ edited (first + i) taken text
+edited_at first taken [] i text new is made = absurd (none_some is)
+  where
+    none_some : slice_get [] i ≡ Some text → ⊥
+    none_some e = cc
+edited_at first taken (t ∷ ts) zero text new is made =
+    let same : t ≡ text = some_same t text is in
+    let here : edited first taken t ≡ new = some_same (edited first taken t) new made in
+    sym here ∙ (ap (edited first taken) same ∙ ap (λ (n : ℕ). edited n taken text) (omega arith))
+  where
+    some_same : (x y : List ℕ) → Some x ≡ Some y → x ≡ y
+    some_same x y e = cc
+edited_at first taken (t ∷ ts) (suc i) text new is made = edited_at (first + 1) taken ts i text new is made ∙ ap (λ (n : ℕ). edited n taken text) (omega arith)
+
+-- the first file's number is 0
+pub edited_of : (taken : List Suggestion) (sources news : List (List ℕ)) (i : ℕ) (text new : List ℕ) → Some text ≡ slice_get sources i → news ≡ edited_from 0 taken sources → Some new ≡ slice_get news i → new ≡ edited i taken text
+edited_of taken sources news i text new is made here =
+    edited_at 0 taken sources i text new (sym is) (ap (λ (ts : List (List ℕ)). slice_get ts i) (sym made) ∙ sym here) ∙ ap (λ (n : ℕ). edited n taken text) (omega arith)

@@ -1,6 +1,6 @@
 ghost use Rattle.std.specs.Prelude.{◌≡◌, ◌<◌, ◌^◌, length, IfOk};
 
-use crate::{BadEdit, apply, select};
+use crate::{BadEdit, apply, moved, select};
 use em_base::{Bytes, Lint, List, NoMemory, Part, Span, Suggestion, Text};
 use std::alloc::Global;
 
@@ -149,5 +149,67 @@ fn findings_are_taken_in_the_order_of_their_anchors(rt: HostRuntime) {
     for (parts, expected) in rows {
         let taken = selected(rt.alloc(), parts.as_slice()).expect(&rt, "memory");
         assert!(rt; taken.as_slice() == expected);
+    }
+}
+
+/// Where a range of the sources is after the suggestions.
+fn moved_in(
+    alloc: Global,
+    sources: &List<Bytes>,
+    taken: &List<Suggestion>,
+    span: Span,
+) -> Result<Option<Span>, BadEdit>
+    requires few { length sources.now < 2 ^ 32 }
+    requires few_taken { length taken.now < 2 ^ 32 }
+{
+    let new = apply(alloc, sources, taken)?;
+    let Some(text) = sources.get(span.file as usize) else {
+        return Ok(None);
+    };
+    let Some(edited) = new.get(span.file as usize) else {
+        return Ok(None);
+    };
+    if span.start <= span.end && span.end as usize <= text.len() && edited.len() < 0x1_0000_0000 {
+        return Ok(Some(moved(taken, span)));
+    }
+    Ok(None)
+}
+
+/// Where the range of the only file is after a suggestion for each row.
+fn moved_by(alloc: Global, rows: &[Row], start: u32, end: u32) -> Result<Option<Span>, BadEdit>
+    requires { length rows.now < 2 ^ 32 }
+{
+    let mut sources = List::new(alloc);
+    sources.push(Bytes::from_slice(alloc, b"abcdef")?)?;
+    let taken = suggestions(alloc, rows)?;
+    let span = Span {
+        file: 0,
+        start,
+        end,
+    };
+    moved_in(alloc, &sources, &taken, span)
+}
+
+#[test]
+fn places_are_moved(rt: HostRuntime) {
+    let rows: [([Row; 2], (u32, u32), (u32, u32)); 9] = [
+        ([(0, 0, 0, "xx"), (0, 6, 6, "y")], (2, 4), (4, 6)),
+        ([(0, 2, 2, "xx"), (0, 4, 4, "y")], (2, 4), (4, 6)),
+        ([(0, 2, 2, "xx"), (0, 3, 3, "y")], (2, 4), (4, 7)),
+        ([(0, 2, 2, "xx"), (0, 4, 4, "y")], (2, 2), (4, 4)),
+        ([(0, 1, 4, "xx"), (0, 5, 6, "")], (1, 4), (1, 3)),
+        ([(0, 1, 4, "xx"), (0, 5, 6, "")], (2, 3), (3, 3)),
+        ([(0, 1, 4, "xx"), (0, 5, 6, "")], (4, 6), (3, 4)),
+        ([(0, 1, 4, "xx"), (0, 4, 4, "yy")], (0, 1), (0, 1)),
+        ([(0, 1, 4, "xx"), (0, 4, 4, "yy")], (4, 5), (5, 6)),
+    ];
+    for (parts, (start, end), (new_start, new_end)) in rows {
+        let span = moved_by(rt.alloc(), parts.as_slice(), start, end).expect(&rt, "applied");
+        let expected = Span {
+            file: 0,
+            start: new_start,
+            end: new_end,
+        };
+        assert!(rt; span == Some(expected));
     }
 }
