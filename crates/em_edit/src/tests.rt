@@ -2,7 +2,7 @@ ghost use Rattle.std.specs.Prelude.{◌≡◌, ◌<◌, ◌^◌, length, IfOk};
 
 use crate::{BadEdit, apply, moved, select};
 use em_base::{Bytes, Lint, List, NoMemory, Part, Span, Suggestion, Text};
-use std::alloc::Global;
+use std::alloc::{AllocError, Global};
 
 /// A part of a file: (file, start, end) and its text.
 type Row = (u32, u32, u32, &'static str);
@@ -211,5 +211,69 @@ fn places_are_moved(rt: HostRuntime) {
             end: new_end,
         };
         assert!(rt; span == Some(expected));
+    }
+}
+
+/// A text with one part replaced.
+fn replaced(alloc: Global, text: &[u8], row: &Row) -> Result<Vec<u8>, AllocError> {
+    let mut new = Vec::new(alloc);
+    new.extend_from_slice(text.get(..row.1 as usize).unwrap_or(b""))?;
+    new.extend_from_slice(row.3.as_bytes())?;
+    new.extend_from_slice(text.get(row.2 as usize..).unwrap_or(b""))?;
+    Ok(new)
+}
+
+/// The text with the parts replaced one after another, from the last to the first.
+fn replaced_from_the_back(alloc: Global, text: &[u8], rows: &[Row]) -> Result<Vec<u8>, AllocError> {
+    let mut new = Vec::from_slice(alloc, text)?;
+    for row in rows.iter().rev() {
+        new = replaced(alloc, new.as_slice(), row)?;
+    }
+    Ok(new)
+}
+
+/// Parts in order, whose gaps, lengths and texts come from a seed.
+fn some_rows(alloc: Global, seed: u32) -> Result<Vec<Row>, AllocError> {
+    let mut rows = Vec::new(alloc);
+    let mut state = seed;
+    let mut at = 0u32;
+    for _ in 0..6 {
+        state = state.wrapping_mul(1_664_525).wrapping_add(1_013_904_223);
+        let start = at.wrapping_add(state >> 30);
+        let end = start.wrapping_add((state >> 28) & 3);
+        let text = if state & 0x0100_0000 == 0 { "xy" } else { "" };
+        rows.push((0, start, end, text))?;
+        at = end.wrapping_add(1);
+    }
+    Ok(rows)
+}
+
+/// The text after the parts in another order.
+fn applied_mixed(alloc: Global, text: &str, rows: &[Row]) -> Result<List<Bytes>, BadEdit> {
+    let mut mixed = Vec::new(alloc);
+    for row in rows.iter().skip(3) {
+        mixed.push(*row).map_err(|_full| BadEdit::NoMemory)?;
+    }
+    for row in rows.iter().take(3) {
+        mixed.push(*row).map_err(|_full| BadEdit::NoMemory)?;
+    }
+    if mixed.len() >= 0x1_0000_0000 {
+        return Err(BadEdit::NoMemory);
+    }
+    applied(alloc, text, mixed.as_slice())
+}
+
+#[test]
+fn one_part_at_a_time_makes_the_same_text(rt: HostRuntime) {
+    let alloc = rt.alloc();
+    let text = "abcdefghijklmnopqrstuvwxyzABCDEFGHIJKLMNOPQRSTUVWXYZ";
+    for seed in 0..40 {
+        let rows = some_rows(alloc, seed).expect(&rt, "memory");
+        let slow = replaced_from_the_back(alloc, text.as_bytes(), rows.as_slice()).expect(
+            &rt, "memory",
+        );
+        let new = applied_mixed(alloc, text, rows.as_slice()).expect(&rt, "applied");
+        let texts = new.as_slice();
+        assert!(rt; texts.len() == 1 && texts[0].as_slice() == slow.as_slice());
     }
 }
