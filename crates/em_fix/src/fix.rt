@@ -16,8 +16,10 @@ use std::alloc::Global;
 /// Puts the changes, and then writes the report. Takes no memory.
 fn carry_out<F: Files, S: Sink>(migration: &Migration, files: &mut F, out: &mut S) -> Status
     requires { length migration.now.changes < 2 ^ 32 }
-    ensures carried { Carries migration.now.changes migration.now.report (F.held files.old) result (F.held files.new) (S.written out.old) (S.written out.new) (S.faults out.old) (S.faults out.new) }
-    ensures cause { FaultRose result (F.faults files.old) (F.faults files.new) (S.faults out.old) (S.faults out.new) }
+    ensures carried { Carries migration.now.changes migration.now.report (F.held files.old) result (F.held files.new)
+        (S.written out.old) (S.written out.new) (S.faults out.old) (S.faults out.new) }
+    ensures cause { FaultRose result (F.faults files.old) (F.faults files.new)
+        (S.faults out.old) (S.faults out.new) }
 {
     let changes = migration.changes.as_slice();
     match put_changes(files, changes) {
@@ -45,16 +47,23 @@ pub fn fix<F: Files, S: Sink>(
     ensures usage { (result ≡ Status.Usage) ↔ (words.now ≢ the_words) }
 
     // What the answer says of the package, of the files that are left, and of the report.
-    ensures says { IfSome (F.held files.old) (λ held. Says held result (F.held files.new) (S.written out.old) (S.written out.new) (S.faults out.old) (S.faults out.new)) }
+    ensures says { IfSome (F.held files.old) (λ held. Says held result (F.held files.new)
+        (S.written out.old) (S.written out.new) (S.faults out.old) (S.faults out.new)) }
 
     // A refusal writes its line.
-    ensures tells { Tells result (S.written out.old) (S.written out.new) (S.faults out.old) (S.faults out.new) }
+    ensures tells { Tells result (S.written out.old) (S.written out.new)
+        (S.faults out.old) (S.faults out.new) }
 
     // A fault is answered only where one came.
-    ensures cause { FaultRose result (F.faults files.old) (F.faults files.new) (S.faults out.old) (S.faults out.new) }
+    ensures cause { FaultRose result (F.faults files.old) (F.faults files.new)
+        (S.faults out.old) (S.faults out.new) }
 
     // A package in form is migrated, if no fault comes and there is memory.
-    ensures complete { words.now ≡ the_words → (Rose (F.faults files.old) (F.faults files.new) → ⊥) → (Rose (S.faults out.old) (S.faults out.new) → ⊥) → IfSome (F.held files.old) (λ held. HasManifest held → HasProgram held → (result ≡ Status.Done) ⊎ (result ≡ Status.NoMemory)) }
+    ensures complete { words.now ≡ the_words
+        → (Rose (F.faults files.old) (F.faults files.new) → ⊥)
+        → (Rose (S.faults out.old) (S.faults out.new) → ⊥)
+        → IfSome (F.held files.old) (λ held. HasManifest held → HasProgram held
+        → (result ≡ Status.Done) ⊎ (result ≡ Status.NoMemory)) }
 {
     if !are_the_words(words) {
         tell(out, &Status::Usage);

@@ -9,7 +9,8 @@ use em_disk::{Failed, Sink};
 #[tactic(auto, using(crate::proofs::Written::appended_twice, crate::proofs::Written::part_more, crate::proofs::Written::part_of_more))]
 fn write_pieces<S: Sink>(out: &mut S, first: &[u8], second: &[u8])
     ensures later { S.faults out.old ≤ S.faults out.new }
-    ensures bytes { Wrote (S.written out.old) (line (first.now ++ second.now)) (S.written out.new) (S.faults out.old) (S.faults out.new) }
+    ensures bytes { Wrote (S.written out.old) (line (first.now ++ second.now)) (S.written out.new)
+        (S.faults out.old) (S.faults out.new) }
 {
     match out.write(first) {
         Ok(()) => match out.write(second) {
@@ -26,7 +27,8 @@ fn write_pieces<S: Sink>(out: &mut S, first: &[u8], second: &[u8])
 /// Writes the line of a file that can't be written.
 pub fn tell_write_fault<S: Sink>(out: &mut S, name: &Text)
     ensures later { S.faults out.old ≤ S.faults out.new }
-    ensures bytes { Wrote (S.written out.old) (write_line name.now) (S.written out.new) (S.faults out.old) (S.faults out.new) }
+    ensures bytes { Wrote (S.written out.old) (write_line name.now) (S.written out.new)
+        (S.faults out.old) (S.faults out.new) }
 {
     write_pieces(out, b"error[4]: cannot write ", name.as_bytes())
 }
@@ -34,7 +36,8 @@ pub fn tell_write_fault<S: Sink>(out: &mut S, name: &Text)
 /// Writes the line of a refusal.
 pub fn tell<S: Sink>(out: &mut S, status: &Status)
     ensures later { S.faults out.old ≤ S.faults out.new }
-    ensures bytes { Tells status.now (S.written out.old) (S.written out.new) (S.faults out.old) (S.faults out.new) }
+    ensures bytes { Tells status.now (S.written out.old) (S.written out.new)
+        (S.faults out.old) (S.faults out.new) }
 {
     match status {
         Status::Usage => write_pieces(out, b"error[2]: usage", b""),

@@ -7,14 +7,16 @@ use std::alloc::Global;
 
 /// The text behind a prefix.
 fn after_prefix<'a>(text: &'a [u8], prefix: &[u8]) -> Option<&'a [u8]>
-    ensures { MatchOption result ((rest : List ℕ) → text.now ≡ prefix.now ++ rest → ⊥) (λ rest. text.now ≡ prefix.now ++ rest.now) }
+    ensures { MatchOption result ((rest : List ℕ) → text.now ≡ prefix.now ++ rest → ⊥)
+        (λ rest. text.now ≡ prefix.now ++ rest.now) }
 {
     text.strip_prefix(prefix)
 }
 
 /// The text before a suffix.
 fn before_suffix<'a>(text: &'a [u8], suffix: &[u8]) -> Option<&'a [u8]>
-    ensures { MatchOption result ((front : List ℕ) → text.now ≡ front ++ suffix.now → ⊥) (λ front. text.now ≡ front.now ++ suffix.now) }
+    ensures { MatchOption result ((front : List ℕ) → text.now ≡ front ++ suffix.now → ⊥)
+        (λ front. text.now ≡ front.now ++ suffix.now) }
 {
     text.strip_suffix(suffix)
 }
@@ -57,7 +59,8 @@ fn package_name(bytes: &[u8]) -> Option<&[u8]>
 
 /// The manifest with the next year in its edition line, where it is one of the edition 2015.
 pub fn next_manifest(alloc: Global, bytes: &[u8]) -> Result<Option<Bytes>, NoMemory>
-    ensures { IfOk result (λ answer. MatchOption answer (IsNoManifest bytes.now) (λ new. MovesManifest bytes.now new)) }
+    ensures { IfOk result (λ answer. MatchOption answer (IsNoManifest bytes.now)
+        (λ new. MovesManifest bytes.now new)) }
 {
     let Some(name) = package_name(bytes) else {
         return Ok(None);

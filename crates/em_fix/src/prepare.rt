@@ -26,7 +26,8 @@ fn fetch<F: Files>(alloc: Global, files: &mut F, name: &str) -> Result<Bytes, St
     ensures later { F.faults files.old ≤ F.faults files.new }
     ensures short { IfOk result (λ bytes. length bytes ≤ 4194304) }
     ensures ok { IfOk result (λ bytes. IfSome (F.held files.old) (λ held. HoldsShort held name.now bytes)) }
-    ensures err { IfErr result (λ status. FetchRefuses (F.held files.old) name.now status (F.faults files.old) (F.faults files.new)) }
+    ensures err { IfErr result (λ status. FetchRefuses (F.held files.old) name.now status
+        (F.faults files.old) (F.faults files.new)) }
 {
     match files.read(alloc, name, FILE_BYTES) {
         Ok(bytes) => Ok(bytes),
@@ -73,7 +74,8 @@ fn changes_of(
     new_manifest: Bytes,
 ) -> Result<List<Change>, NoMemory>
     ensures few { IfOk result (λ list. length list < 2 ^ 32) }
-    ensures all { IfOk result (λ list. list ≡ change_if source_name source new_source ++ (change manifest_name manifest new_manifest ∷ [])) }
+    ensures all { IfOk result (λ list. list ≡ change_if source_name source new_source
+        ++ (change manifest_name manifest new_manifest ∷ [])) }
 {
     let mut changes = List::new(alloc);
     push_if_changed(alloc, &mut changes, "src/main.rs", source, new_source)?;

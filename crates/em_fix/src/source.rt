@@ -63,7 +63,8 @@ fn with_edits(
 #[tactic(auto, using(crate::proofs::Sources::no_lexing, crate::proofs::Sources::no_form, crate::proofs::Sources::few_findings))]
 pub fn moved_source(alloc: Global, source: Bytes) -> Result<Option<MovedSource>, NoMemory>
     requires { length source ≤ 4194304 }
-    ensures { IfOk result (λ answer. MatchOption answer (IsNoProgram source) (λ moved. (moved.old ≡ source) × MovesSource source moved.new moved.found)) }
+    ensures { IfOk result (λ answer. MatchOption answer (IsNoProgram source)
+        (λ moved. (moved.old ≡ source) × MovesSource source moved.new moved.found)) }
 {
     em_lex::lexing_is_one();
     em_lex::tokens_lie_in_text();
