@@ -1,0 +1,28 @@
+//! The Core of a package and what a run of it means.
+//!
+//! A Core is a program with its names resolved and its adjustments, coercions and drop scopes made explicit. `specs/` defines the machine that runs one.
+#![tactic(auto)]
+
+mod definition;
+mod expr;
+mod function;
+mod mention;
+mod methods;
+mod notes;
+mod operator;
+mod pattern;
+mod place;
+mod program;
+mod ty;
+
+pub use definition::{TypeDef, Variant};
+pub use expr::{Arm, Expr, Piece};
+pub use function::{Capture, ClosureEntry, FieldStep, Function, Variable};
+pub use mention::{By, Closure, Mention, Mentioned, PathStep};
+pub use methods::{Impl, ImplFunction, Method, Methods, Owner, Receiver};
+pub use notes::{Note, Notes, RootNote};
+pub use operator::{BinaryOp, CompareOp, Constant, UnaryOp};
+pub use pattern::{Binding, Pattern};
+pub use place::{Base, PlaceExpr, PlaceStep};
+pub use program::{Core, Difference};
+pub use ty::{ClosureKind, IntKind, Ty};
