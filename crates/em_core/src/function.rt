@@ -1,7 +1,7 @@
 use crate::expr::Expr;
 use crate::mention::By;
 use crate::place::Base;
-use crate::ty::Ty;
+use crate::ty::{ClosureKind, Ty};
 use em_base::{List, Place};
 
 /// A field on the way to a captured part. Its type has one variant.
@@ -33,13 +33,15 @@ pub struct Variable {
 pub struct ClosureEntry {
     /// A number that no other closure of the Core has.
     pub id: u32,
+    /// The type of its values.
+    pub ty: Ty,
     pub parameters: List<Ty>,
     pub result: Ty,
     pub slots: List<Ty>,
     /// The captured variables in capture order.
     pub variables: List<Variable>,
     /// Whether a call needs no more than shared access, unique access, or uses the closure up.
-    pub kind: crate::ty::ClosureKind,
+    pub kind: ClosureKind,
     pub body: Expr,
 }
 

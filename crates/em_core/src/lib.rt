@@ -22,7 +22,7 @@ pub use mention::{By, Closure, Mention, Mentioned, PathStep};
 pub use methods::{Impl, ImplFunction, Method, Methods, Owner, Receiver};
 pub use notes::{Note, Notes, RootNote};
 pub use operator::{BinaryOp, CompareOp, Constant, UnaryOp};
-pub use pattern::{Binding, Pattern};
+pub use pattern::{Binding, Pattern, PatternPart, Test, VariantField};
 pub use place::{Base, PlaceExpr, PlaceStep};
 pub use program::{Core, Difference};
 pub use ty::{ClosureKind, IntKind, Ty};
