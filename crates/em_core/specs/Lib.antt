@@ -9,3 +9,4 @@ pub mod Matching
 pub mod Calls
 pub mod Steps
 pub mod Runs
+pub mod Examples

@@ -6,6 +6,7 @@
 mod definition;
 mod expr;
 mod function;
+mod laws;
 mod mention;
 mod methods;
 mod notes;
@@ -18,6 +19,7 @@ mod ty;
 pub use definition::{TypeDef, Variant};
 pub use expr::{Arm, Expr, Piece};
 pub use function::{Capture, ClosureEntry, FieldStep, Function, Variable};
+pub use laws::{closures_capture, control_and_values, drops_in_order, operators_panic, panics_unwind};
 pub use mention::{By, Closure, Mention, Mentioned, PathStep};
 pub use methods::{Impl, ImplFunction, Method, Methods, Owner, Receiver};
 pub use notes::{Note, Notes, RootNote};
