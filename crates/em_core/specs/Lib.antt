@@ -9,4 +9,7 @@ pub mod Matching
 pub mod Calls
 pub mod Steps
 pub mod Runs
+pub mod Types
+pub mod Nodes
+pub mod Typed
 pub mod Examples

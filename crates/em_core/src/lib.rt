@@ -21,7 +21,7 @@ pub use expr::{Arm, Expr, Piece};
 pub use function::{Capture, ClosureEntry, FieldStep, Function, Variable};
 pub use laws::{closures_capture, control_and_values, drops_in_order, operators_panic, panics_unwind};
 pub use mention::{By, Closure, Mention, Mentioned, PathStep};
-pub use methods::{Impl, ImplFunction, Method, Methods, Owner, Receiver};
+pub use methods::{Impl, ImplFunction, Method, Methods, Owner, Receiver, Signature};
 pub use notes::{Note, Notes, RootNote};
 pub use operator::{BinaryOp, CompareOp, Constant, UnaryOp};
 pub use pattern::{Binding, Pattern, PatternPart, Test, VariantField};

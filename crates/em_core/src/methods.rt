@@ -23,6 +23,13 @@ pub enum Receiver {
     Unique,
 }
 
+/// What a call on a trait object takes after its receiver, and what it gives.
+#[derive(Drop)]
+pub struct Signature {
+    pub parameters: List<Ty>,
+    pub result: Ty,
+}
+
 /// A method of a type or of a trait.
 #[derive(Drop)]
 pub struct Method {
@@ -31,6 +38,8 @@ pub struct Method {
     pub receiver: Receiver,
     /// Its function, where it has a body.
     pub function: Option<u32>,
+    /// For a trait's method that takes `&self` or `&mut self` and has no `Self` in its signature.
+    pub on_object: Option<Signature>,
 }
 
 /// What stands in an impl for a method of its trait.

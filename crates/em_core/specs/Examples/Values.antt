@@ -83,7 +83,7 @@ object = roll-Ty (Ty-F.Boxed (Dyn 0))
 -- trait Show { fn show(&self); } impl Show for D { fn show(&self) { println!("show {}", self.0); } }   fn main() { let b: Box<dyn Show> = Box::new(D(1)); b.show(); println!("end"); }
 abbrev pub trait_object : Core
 trait_object = program_with [] (record {
-      methods = record { owner = owner.Trait 0; name = codes "show"; receiver = receiver.Shared; function = None } ∷ [];
+      methods = record { owner = owner.Trait 0; name = codes "show"; receiver = receiver.Shared; function = None; on_object = Some (record { parameters = []; result = Unit }) } ∷ [];
       impls = record { of = 0; ty = ty_d; functions = record { method = 0; function = 3 } ∷ [] } ∷ []
     })
     (main (object ∷ []) (scope (0 ∷ []) (init 0 (roll-Expr (Expr-F.Unsize (roll-Ty (Ty-F.Boxed ty_d)) object (roll-Expr (Expr-F.BoxNew ty_d (d 1))))) ∷
