@@ -1,5 +1,5 @@
 -- Operators on values, with the panics of Rust's checked arithmetic (Reference, "Operator expressions", "Overflow"), and the text that `{}` writes.
-use Rattle.std.specs.Prelude.{ℕ, zero, suc, ◌+◌, ◌-◌, ◌*◌, ◌%◌, ◌^◌, ℤ, pos, negsuc, ◌+ℤ◌, ◌-ℤ◌, ◌*ℤ◌, neg_ℤ, Bool, true, false, not, ◌&&◌, ◌||◌, if◌then◌else◌, ◌==◌, nat_lt, nat_le, List, [], ◌∷◌, ◌++◌, int_lt, int_le, int_div, int_rem, bit_and, bit_or, bit_xor, codes, decimal, encode_utf8}
+use Rattle.std.specs.Prelude.{ℕ, ◌-◌, ◌*◌, ◌%◌, ◌^◌, ℤ, pos, negsuc, ◌+ℤ◌, ◌-ℤ◌, ◌*ℤ◌, neg_ℤ, Bool, true, false, not, ◌&&◌, ◌||◌, if◌then◌else◌, ◌==◌, nat_lt, nat_le, List, ◌++◌, int_lt, int_le, int_div, int_rem, bit_and, bit_or, bit_xor, codes, decimal, encode_utf8}
 use Rattle.std.specs.Int.{Width, w8, w16, w32, w64, cast_unsigned, cast_signed, int_shr}
 use Rattle.std.specs.Fmt.{signed_decimal}
 use Rattle.em_core.specs.declared.ty.IntKind.{IntKind}
@@ -12,7 +12,7 @@ use Rattle.em_core.specs.declared.operator.BinaryOp.{BinaryOp}
 use Rattle.em_core.specs.declared.operator.BinaryOp.TheVariants as binary
 use Rattle.em_core.specs.declared.operator.CompareOp.{CompareOp}
 use Rattle.em_core.specs.declared.operator.CompareOp.TheVariants as compare
-use Rattle.em_core.specs.Values.{Event, Panicked, Try, Done, Panics, Stuck, Value, Number, Truth, Character, Text, UnitValue}
+use Rattle.em_core.specs.Values.{Panicked, Try, Done, Panics, Stuck, Value, Number, Truth, Character, Text, UnitValue}
 
 abbrev pub width : IntKind → Width
 width I8 = w8

@@ -1,18 +1,16 @@
 -- Calls: of a function, of a trait object's method, and of a closure where it stands or once.
-use Rattle.std.specs.Prelude.{ℕ, zero, suc, Bool, true, false, ◌&&◌, if◌then◌else◌, ◌==◌, List, [], ◌∷◌, ◌++◌, length, find, Option, Some, None, slice_get, option_and_then, option_map}
+use Rattle.std.specs.Prelude.{ℕ, suc, Bool, true, false, ◌&&◌, ◌==◌, List, [], ◌∷◌, ◌++◌, length, find, Option, Some, None, slice_get, option_and_then}
 use Rattle.em_core.specs.declared.ty.Ty.{Ty, out-Ty}
 use Rattle.em_core.specs.declared.ty.Ty.TheOpen.{Ty-F}
-use Rattle.em_core.specs.declared.expr.Expr.{Expr}
 use Rattle.em_core.specs.declared.methods.Impl.{Impl}
 use Rattle.em_core.specs.declared.methods.ImplFunction.{ImplFunction}
-use Rattle.em_core.specs.declared.methods.Method.{Method}
 use Rattle.em_core.specs.declared.methods.Owner.{Owner}
 use Rattle.em_core.specs.declared.methods.Owner.TheVariants as owner
 use Rattle.em_core.specs.declared.program.Core.{Core}
-use Rattle.em_core.specs.Values.{Try, Done, Panics, Invalid, Stuck, and_then, or_stuck, Code, Fn, Cl, Address, Value, Number, Truth, Character, UnitValue, Struct, Box, Refers, Closure, Moved, Hole, Values}
+use Rattle.em_core.specs.Values.{Try, Done, Invalid, Stuck, and_then, or_stuck, Code, Fn, Cl, Address, Value, Number, Truth, Character, UnitValue, Struct, Box, Refers, Closure, Moved, Hole}
 use Rattle.em_core.specs.Arithmetic.{same_kind}
 use Rattle.em_core.specs.Facts.{slots_of, body_of, closure_type}
-use Rattle.em_core.specs.States.{Cell, Item, Evaluate, Frame, State, cells_of, all_frames, look, go, drop_parameters, drop_items}
+use Rattle.em_core.specs.States.{Cell, Item, Evaluate, State, cells_of, all_frames, look, drop_parameters, drop_items}
 
 -- whether a value is of a type that an impl may be for
 abbrev pub is_of : Value → Ty-F Ty → Bool
@@ -46,7 +44,7 @@ module _ (core : Core) where
       Done (record st {
         top = record { id = st.fresh; code = code; self = self; cells = cells; control = Evaluate e ∷ after; operands = [] };
         below = all_frames st;
-        fresh = suc st.fresh
+        fresh = suc st.fresh;
       }))
 
   abbrev pub call : State → ℕ → List Value → Try State

@@ -1,12 +1,12 @@
 -- MakeClosure: all captures are taken at once, and nothing that they take is accessed.
-use Rattle.std.specs.Prelude.{ℕ, zero, suc, Bool, true, false, ◌&&◌, if◌then◌else◌, ◌==◌, List, [], ◌∷◌, ◌++◌, length, map, Option, Some, None}
+use Rattle.std.specs.Prelude.{ℕ, zero, suc, Bool, true, false, List, [], ◌∷◌, ◌++◌, length, map}
 use Rattle.em_core.specs.declared.function.Capture.{Capture}
 use Rattle.em_core.specs.declared.function.FieldStep.{FieldStep}
 use Rattle.em_core.specs.declared.function.Variable.{Variable}
 use Rattle.em_core.specs.declared.mention.By.{By}
 use Rattle.em_core.specs.declared.mention.By.TheVariants as by
 use Rattle.em_core.specs.declared.program.Core.{Core}
-use Rattle.em_core.specs.Values.{Try, Done, Panics, Invalid, Stuck, and_then, Step, Fld, Elem, Inside, Rt, Address, Borrowed, Value, Closure, Root, Partial, Moved, Hole, Values, no_more, more, nth, set_nth, copies_of, get}
+use Rattle.em_core.specs.Values.{Try, Done, Panics, Invalid, Stuck, and_then, Step, Fld, Address, Borrowed, Value, Closure, Root, Partial, Moved, Hole, Values, no_more, more, copies_of, get}
 use Rattle.em_core.specs.Facts.{fields_of, variables_of}
 use Rattle.em_core.specs.States.{State, all_frames, with_frames, slot_value, write}
 use Rattle.em_core.specs.Places.{part_of}

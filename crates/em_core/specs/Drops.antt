@@ -1,9 +1,8 @@
 -- What a drop visits (Reference, "Destructors"): a value's own Drop first, then its parts: fields in the order of their declaration, elements from the first, what a box holds, captured variables in capture order.
-use Rattle.std.specs.Prelude.{ℕ, zero, suc, Bool, true, false, if◌then◌else◌, ◌==◌, List, [], ◌∷◌, ◌++◌, Option, Some, None}
+use Rattle.std.specs.Prelude.{ℕ, zero, suc, if◌then◌else◌, ◌==◌, List, [], ◌∷◌, ◌++◌, Option, Some, None}
 use Rattle.em_core.specs.declared.ty.Ty.{Ty, out-Ty}
-use Rattle.em_core.specs.declared.ty.Ty.TheOpen.{Ty-F}
 use Rattle.em_core.specs.declared.program.Core.{Core}
-use Rattle.em_core.specs.Values.{Step, Fld, Elem, Inside, Rt, Value, Number, Truth, Character, Text, UnitValue, Struct, Array, Box, Refers, Closure, Root, Partial, Owned, Borrows, Range, Moved, Hole, Values, no_more, more, Try, Done, and_then, child}
+use Rattle.em_core.specs.Values.{Step, Fld, Elem, Inside, Rt, Value, Struct, Array, Box, Closure, Root, Partial, Owned, Values, no_more, more, Try, Done, and_then, child}
 use Rattle.em_core.specs.Facts.{field_type, drop_of, variable_type, def_in, closure_in, element_in, item_in, content_in, content_type, type_below}
 
 -- what a drop has still to visit: the parts of the value at a path, from a number on

@@ -4,3 +4,4 @@ pub mod Drops
 pub mod Panics
 pub mod Closures
 pub mod Values
+pub mod Places

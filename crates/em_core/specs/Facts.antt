@@ -1,12 +1,9 @@
 -- What the numbers in a Core name: types, fields, slots, bodies and captured variables.
-use Rattle.std.specs.Prelude.{ℕ, zero, suc, Bool, true, false, if◌then◌else◌, ◌==◌, List, [], ◌∷◌, ◌++◌, length, Option, Some, None, slice_get}
+use Rattle.std.specs.Prelude.{ℕ, Bool, true, false, if◌then◌else◌, ◌==◌, List, [], Option, Some, None, slice_get}
 use Rattle.std.specs.Prelude.{flat_map, find, option_map, option_and_then}
-use Rattle.em_core.specs.declared.ty.Ty.{Ty, out-Ty, Never, Def}
+use Rattle.em_core.specs.declared.ty.Ty.{Ty, out-Ty, Never}
 use Rattle.em_core.specs.declared.ty.Ty.TheOpen.{Ty-F}
-use Rattle.em_core.specs.declared.definition.TypeDef.{TypeDef}
-use Rattle.em_core.specs.declared.definition.Variant.{Variant}
 use Rattle.em_core.specs.declared.expr.Expr.{Expr}
-use Rattle.em_core.specs.declared.function.Function.{Function}
 use Rattle.em_core.specs.declared.function.ClosureEntry.{ClosureEntry}
 use Rattle.em_core.specs.declared.function.Variable.{Variable}
 use Rattle.em_core.specs.declared.program.Core.{Core}

@@ -1,5 +1,5 @@
 -- Match: which arm is taken, and what its pattern binds.
-use Rattle.std.specs.Prelude.{ℕ, zero, suc, Bool, true, false, ◌&&◌, if◌then◌else◌, ◌==◌, List, [], ◌∷◌, ◌++◌, map, Option, Some, None, bytes_eq}
+use Rattle.std.specs.Prelude.{ℕ, Bool, true, false, ◌&&◌, if◌then◌else◌, ◌==◌, List, [], ◌∷◌, map, Option, Some, None, bytes_eq}
 use Rattle.em_core.specs.declared.expr.Expr.{Expr}
 use Rattle.em_core.specs.declared.expr.Arm.{Arm, out-Arm}
 use Rattle.em_core.specs.declared.operator.CompareOp.{CompareOp}
@@ -11,9 +11,9 @@ use Rattle.em_core.specs.declared.pattern.PatternPart.{PatternPart}
 use Rattle.em_core.specs.declared.pattern.Test.{Test}
 use Rattle.em_core.specs.declared.pattern.Test.TheVariants as test
 use Rattle.em_core.specs.declared.pattern.VariantField.{VariantField}
-use Rattle.em_core.specs.Values.{Try, Done, Panics, Invalid, Stuck, and_then, Step, Fld, Address, Value, Number, Truth, Character, Text, Struct, Partial, Refers, Moved, Hole}
+use Rattle.em_core.specs.Values.{Try, Done, Invalid, Stuck, and_then, Fld, Address, Value, Truth, Text, Struct, Refers, Moved, Hole}
 use Rattle.em_core.specs.Arithmetic.{of_compare, of_constant}
-use Rattle.em_core.specs.States.{State, Frame, all_frames, with_frames, with_cells, with_cell, look, read, write, with_operands}
+use Rattle.em_core.specs.States.{State, Frame, all_frames, with_frames, with_cells, with_cell, look, read, write}
 use Rattle.em_core.specs.Places.{below_address}
 
 -- what a test says of a part that stands; a binding asks nothing

@@ -1,11 +1,11 @@
 -- Where a place stands. Finding it takes no step.
-use Rattle.std.specs.Prelude.{ℕ, zero, suc, ℤ, pos, negsuc, Bool, true, false, ◌&&◌, if◌then◌else◌, ◌==◌, nat_lt, List, [], ◌∷◌, ◌++◌, Option, Some, None}
+use Rattle.std.specs.Prelude.{ℕ, pos, Bool, true, false, ◌&&◌, if◌then◌else◌, ◌==◌, nat_lt, List, [], ◌∷◌, ◌++◌, Option, Some, None}
 use Rattle.em_core.specs.declared.place.Base.{Base}
 use Rattle.em_core.specs.declared.place.Base.TheVariants as base
 use Rattle.em_core.specs.declared.place.PlaceStep.{PlaceStep}
 use Rattle.em_core.specs.declared.place.PlaceStep.TheVariants as along
 use Rattle.em_core.specs.declared.place.PlaceExpr.{PlaceExpr}
-use Rattle.em_core.specs.Values.{Panicked, Try, Done, Panics, Invalid, Stuck, and_then, or_stuck, Code, Fn, Cl, Step, Fld, Elem, Inside, Rt, Address, Borrowed, Value, Number, Array, Box, Refers, Closure, Root, Moved, Hole, Values, nth, count_of}
+use Rattle.em_core.specs.Values.{Panicked, Try, Done, Panics, Invalid, Stuck, and_then, or_stuck, Code, Cl, Step, Fld, Elem, Inside, Rt, Address, Borrowed, Value, Number, Array, Box, Refers, Closure, Root, Moved, Hole, nth, count_of}
 use Rattle.em_core.specs.Arithmetic.{bounds_text}
 use Rattle.em_core.specs.States.{Frame, State, all_frames, look, read}
 

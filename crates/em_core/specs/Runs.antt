@@ -1,8 +1,8 @@
 -- What is seen of a run.
-use Rattle.std.specs.Prelude.{ℕ, zero, suc, Bool, true, false, List, [], ◌∷◌, Option, Some, None}
+use Rattle.std.specs.Prelude.{ℕ, zero, suc, Bool, true, false, List, [], Option, Some, None}
 use Rattle.em_core.specs.declared.program.Core.{Core}
-use Rattle.em_core.specs.Values.{Event, Try, Done, Panics, Invalid, Stuck, and_then, Code, Fn, UnitValue}
-use Rattle.em_core.specs.States.{Mode, Normal, Unwinding, Ended, Frame, State}
+use Rattle.em_core.specs.Values.{Event, Try, Done, Panics, Invalid, Stuck, and_then, Fn}
+use Rattle.em_core.specs.States.{Mode, Normal, Ended, State}
 use Rattle.em_core.specs.Calls.{call}
 use Rattle.em_core.specs.Steps.{step}
 
@@ -24,7 +24,7 @@ outset = record {
   below = [];
   fresh = 1;
   mode = Normal;
-  events = []
+  events = [];
 }
 
 -- the call of a function without arguments, from which the run starts
@@ -37,10 +37,10 @@ module _ (core : Core) where
   seen_from (suc n) st =
       let more = seen_from n in
       elim (step core st) [
-        Done q ↦ more q
-      | Panics e ↦ record { events = st.events; ended = true; invalid = false; stuck = true }
-      | Invalid ↦ record { events = st.events; ended = true; invalid = true; stuck = false }
-      | Stuck ↦ record { events = st.events; ended = true; invalid = false; stuck = true }
+        | Done q ↦ more q
+        | Panics e ↦ record { events = st.events; ended = true; invalid = false; stuck = true }
+        | Invalid ↦ record { events = st.events; ended = true; invalid = true; stuck = false }
+        | Stuck ↦ record { events = st.events; ended = true; invalid = false; stuck = true }
       ]
 
   abbrev pub seen_of : ℕ → Try State → Seen

@@ -7,7 +7,7 @@ use Rattle.em_core.specs.declared.operator.UnaryOp.{UnaryOp}
 use Rattle.em_core.specs.declared.operator.BinaryOp.{BinaryOp}
 use Rattle.em_core.specs.declared.operator.CompareOp.{CompareOp}
 use Rattle.em_core.specs.declared.place.PlaceExpr.{PlaceExpr}
-use Rattle.em_core.specs.Values.{Event, Aborted, Code, Address, Value, Moved, Try, Done, Panics, Invalid, Stuck, and_then, or_stuck, or_invalid, get, put, cleaned}
+use Rattle.em_core.specs.Values.{Event, Aborted, Code, Address, Value, Try, Done, Invalid, Stuck, and_then, or_invalid, get, put, cleaned}
 use Rattle.em_core.specs.Drops.{Todo, Found}
 
 -- a slot: its type, and its value while it is open

@@ -1,20 +1,17 @@
 -- A step of the machine: another state, an invalid access, or nothing where a Core is not typed.
-use Rattle.std.specs.Prelude.{ℕ, zero, suc, ◌+◌, ◌-◌, ℤ, pos, negsuc, ◌+ℤ◌, Bool, true, false, if◌then◌else◌, ◌==◌, nat_lt, int_lt, List, [], ◌∷◌, ◌++◌, length, Option, Some, None}
-use Rattle.em_core.specs.declared.ty.Ty.{Ty}
+use Rattle.std.specs.Prelude.{ℕ, suc, pos, ◌+ℤ◌, Bool, true, false, if◌then◌else◌, nat_lt, int_lt, List, [], ◌∷◌, ◌++◌, length, Option, Some, None}
 use Rattle.em_core.specs.declared.expr.Expr.{Expr, out-Expr}
 use Rattle.em_core.specs.declared.expr.Expr.TheOpen.{Expr-F}
 use Rattle.em_core.specs.declared.expr.Arm.{Arm}
 use Rattle.em_core.specs.declared.expr.Piece.{Piece}
 use Rattle.em_core.specs.declared.expr.Piece.TheVariants as piece
 use Rattle.em_core.specs.declared.pattern.Pattern.{Pattern}
-use Rattle.em_core.specs.declared.place.PlaceExpr.{PlaceExpr}
 use Rattle.em_core.specs.declared.program.Core.{Core}
-use Rattle.em_core.specs.Values.{Event, Panicked, PanickedWith, Printed, Dropped, Try, Done, Panics, Invalid, Stuck, and_then, or_stuck, Code, Fn, Cl, Address, Elem, Value, Number, Truth, UnitValue, Struct, Array, Box, Refers, Closure, Owned, Borrows, Range, Moved, Hole, Values, no_more, more, values_of, count_of, copies_of}
+use Rattle.em_core.specs.Values.{Panicked, PanickedWith, Printed, Dropped, Try, Done, Panics, Invalid, Stuck, and_then, Address, Elem, Value, Number, Truth, UnitValue, Struct, Array, Box, Refers, Owned, Borrows, Range, Moved, Hole, no_more, more, values_of, count_of, copies_of}
 use Rattle.em_core.specs.Arithmetic.{same_kind, of_constant, of_unary, of_binary, of_compare, shown}
 use Rattle.em_core.specs.Drops.{Todo, Found, seek, seek_parts, typed_part}
-use Rattle.em_core.specs.States
 use Rattle.em_core.specs.States.{Item, Evaluate, Put, Replace, DropAt, Store, ApplyUnary, ApplyBinary, ApplyCompare, MakeStruct, MakeArray, MakeCopies, MakeBox, MakeRange, Enter, EnterDyn, EnterBy, EnterOnce, Choose, Again, GiveBack, Toss, Say, Fail, FailWith, MakeIter, MakeRefIter, DropOwn, GiveUnit, Leave, DropSlot, DropRest, DropCall, Empty, Shut, Unwound}
-use Rattle.em_core.specs.States.{Frame, Mode, Normal, Unwinding, Ended, State, Looped, frame_at, cell_at, ty_of, with_cell, with_cells_at, slot_value, look, read, write, all_frames, with_frames, go, give, with_cells, with_operands, with_event, pop, pop_all, pop_two, give_all, rows, exits, innermost, lowest, leave_items, drop_items, panicked}
+use Rattle.em_core.specs.States.{Frame, Mode, Ended, State, frame_at, cell_at, ty_of, with_cell, with_cells_at, look, read, write, all_frames, with_frames, go, give, with_cells, with_operands, with_event, pop, pop_all, pop_two, give_all, rows, exits, innermost, lowest, leave_items, drop_items, panicked}
 use Rattle.em_core.specs.Places.{locate, below_address}
 use Rattle.em_core.specs.Captures.{made_closure}
 use Rattle.em_core.specs.Matching.{first_arm, bind_parts, into_slot}

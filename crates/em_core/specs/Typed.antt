@@ -1,5 +1,5 @@
 -- Typed: a Core's numbers name what it has, and each expression gives and takes values of the types that its place asks. It speaks of the Core alone and of no run.
-use Rattle.std.specs.Prelude.{◌≡◌, ◌≢◌, ◌⊎◌, ◌↔◌, ℕ, zero, suc, ◌<◌, ℤ, Bool, true, false, List, [], ◌∷◌, ◌++◌, length, take, map, Option, Some, None, IsTrue, IsSome, All, Any, Contains, slice_get}
+use Rattle.std.specs.Prelude.{◌≡◌, ◌≢◌, ◌⊎◌, ◌↔◌, ℕ, suc, ◌<◌, Bool, true, false, List, [], ◌∷◌, ◌++◌, length, take, map, Some, None, IsTrue, All, Any, Contains, slice_get}
 use Rattle.em_core.specs.declared.ty.Ty.{Ty, out-Ty}
 use Rattle.em_core.specs.declared.ty.Ty.TheOpen.{Ty-F}
 use Rattle.em_core.specs.declared.ty.IntKind.{IntKind}
@@ -37,12 +37,10 @@ use Rattle.em_core.specs.declared.function.FieldStep.{FieldStep}
 use Rattle.em_core.specs.declared.function.Variable.{Variable}
 use Rattle.em_core.specs.declared.function.Function.{Function}
 use Rattle.em_core.specs.declared.function.ClosureEntry.{ClosureEntry}
-use Rattle.em_core.specs.declared.mention.By.{By}
 use Rattle.em_core.specs.declared.mention.By.TheVariants as by
 use Rattle.em_core.specs.declared.methods.Impl.{Impl}
 use Rattle.em_core.specs.declared.methods.ImplFunction.{ImplFunction}
 use Rattle.em_core.specs.declared.methods.Method.{Method}
-use Rattle.em_core.specs.declared.methods.Owner.{Owner}
 use Rattle.em_core.specs.declared.methods.Owner.TheVariants as owner
 use Rattle.em_core.specs.declared.methods.Receiver.{Receiver}
 use Rattle.em_core.specs.declared.methods.Receiver.TheVariants as receiver
@@ -51,7 +49,7 @@ use Rattle.em_core.specs.declared.program.Core.{Core}
 use Rattle.em_core.specs.Values.{Code, Cl}
 use Rattle.em_core.specs.Values
 use Rattle.em_core.specs.Arithmetic.{holds, is_signed}
-use Rattle.em_core.specs.Facts.{fields_of, closure_of, closures_of, variables_of, slots_of, body_of}
+use Rattle.em_core.specs.Facts.{fields_of, closure_of, variables_of, slots_of}
 use Rattle.em_core.specs.Nodes.{children, node_at, type_at_path}
 use Rattle.em_core.specs.Types.{IsCopy, IsDropFree, HoldsReference}
 

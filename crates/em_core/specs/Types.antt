@@ -1,9 +1,8 @@
 -- What types are: Copy, parts, drop-free, and whether a value holds a reference (Reference, "Special types and traits", "Copy", and "Destructors").
-use Rattle.std.specs.Prelude.{◌≡◌, ◌⊎◌, ◌↔◌, ℕ, Bool, true, false, List, [], ◌∷◌, Option, Some, None, IsTrue, IsSome, All, Any, Contains, slice_get}
+use Rattle.std.specs.Prelude.{◌≡◌, ℕ, Bool, true, false, Some, IsSome, Contains, slice_get}
 use Rattle.em_core.specs.declared.ty.Ty.{Ty, out-Ty}
 use Rattle.em_core.specs.declared.ty.Ty.TheOpen.{Ty-F}
 use Rattle.em_core.specs.declared.ty.IntKind.{IntKind}
-use Rattle.em_core.specs.declared.ty.ClosureKind.{ClosureKind}
 use Rattle.em_core.specs.declared.definition.TypeDef.{TypeDef}
 use Rattle.em_core.specs.declared.definition.Variant.{Variant}
 use Rattle.em_core.specs.declared.program.Core.{Core}

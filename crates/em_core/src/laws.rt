@@ -8,8 +8,9 @@ ghost use Rattle.em_core.specs.Runs.{events};
 ghost use Rattle.em_core.specs.Examples.Short.{seen, invalid_after, prints, drops, int};
 ghost use Rattle.em_core.specs.Examples.Drops.{fields, moved_into_call, locals, assignment, part_moved, boxed, dropped, moved_value};
 ghost use Rattle.em_core.specs.Examples.Panics.{unwinding, panic_in_drop, abort, panic_in_assignment, panic_value, operation, negation, least, indexed};
-ghost use Rattle.em_core.specs.Examples.Closures.{whole_variable, one_field, whole_value, copied_field, counter, two_ways, boxed_once};
-ghost use Rattle.em_core.specs.Examples.Values.{by_value, broken_off, by_reference, counted, returns, matched_by_move, matched_by_reference, failing_let, trait_object, formats};
+ghost use Rattle.em_core.specs.Examples.Closures.{whole_variable, one_field, whole_value, copied_field, counter, two_ways, boxed_once, nested_whole, nested_field, capture_order};
+ghost use Rattle.em_core.specs.Examples.Values.{by_value, broken_off, by_reference, counted, returns, matched_by_move, matched_by_reference, failing_let, trait_object, formats, kinds, complements};
+ghost use Rattle.em_core.specs.Examples.Places.{repeated, written_through, sliced, partly_moved, out_of_box, ended_frame, closed_scope};
 
 /// Drops come in order: fields as declared, locals in reverse, parameters last, an old value after the new one is computed.
 pub fn drops_in_order()
@@ -21,8 +22,7 @@ pub fn drops_in_order()
     ensures boxed { events boxed 80 ≡ seen (prints (codes "1") ++ prints (codes "end") ++ drops (codes "1")) }
     ensures dropped { events dropped 80 ≡ seen (drops (codes "1") ++ prints (codes "end")) }
     ensures moved_value { events moved_value 80 ≡ invalid_after (drops (codes "1")) }
-{
-}
+{}
 
 /// A panic drops what is alive on its way out, a panic in a drop goes on with what is left to drop, and a second panic aborts.
 pub fn panics_unwind()
@@ -31,8 +31,7 @@ pub fn panics_unwind()
     ensures abort { events abort 120 ≡ seen (Panicked (codes "stop") ∷ Dropped 2 ∷ Printed (codes "drop E 1") ∷ Aborted ∷ []) }
     ensures panic_in_assignment { events panic_in_assignment 120 ≡ seen (Dropped 2 ∷ Printed (codes "drop E 1") ∷ Panicked (codes "in drop") ∷ Dropped 2 ∷ Printed (codes "drop E 2") ∷ []) }
     ensures panic_value { events panic_value 40 ≡ seen (PanickedWith int ∷ []) }
-{
-}
+{}
 
 /// Arithmetic that overflows, a zero divisor and an index out of bounds panic with the texts that Rust has.
 pub fn operators_panic()
@@ -53,8 +52,7 @@ pub fn operators_panic()
     ensures shifted { events (operation ShiftLeft U8 (pos 129) (pos 1)) 40 ≡ seen (prints (codes "2")) }
     ensures shifted_right { events (operation ShiftRight I32 (negsuc 6) (pos 1)) 40 ≡ seen (prints (codes "-4")) }
     ensures bits { events (operation Xor I32 (negsuc 0) (pos 5)) 40 ≡ seen (prints (codes "-6")) }
-{
-}
+{}
 
 /// What a closure captures drops where the closure drops; what it borrows or copies does not.
 pub fn closures_capture()
@@ -65,8 +63,7 @@ pub fn closures_capture()
     ensures counter { events counter 120 ≡ seen (prints (codes "6")) }
     ensures two_ways { events two_ways 120 ≡ seen (prints (codes "2") ++ drops (codes "1") ++ prints (codes "end") ++ drops (codes "2")) }
     ensures boxed_once { events boxed_once 120 ≡ seen (prints (codes "in") ++ drops (codes "1") ++ prints (codes "end")) }
-{
-}
+{}
 
 /// Iterators, loops, matches, trait objects and formats.
 pub fn control_and_values()
@@ -80,5 +77,31 @@ pub fn control_and_values()
     ensures failing_let { events failing_let 60 ≡ invalid_after [] }
     ensures trait_object { events trait_object 120 ≡ seen (prints (codes "show 1") ++ prints (codes "end") ++ drops (codes "1")) }
     ensures formats { events formats 60 ≡ seen (prints (codes "true and x, -5 t")) }
+{}
+
+/// Places lead through references, boxes and slices; a part that is moved out does not drop; an address that leads nowhere is invalid.
+pub fn places_lead()
+    ensures repeated { events repeated 160 ≡ seen (prints (codes "0") ++ prints (codes "5") ++ prints (codes "0")) }
+    ensures written_through { events written_through 80 ≡ seen (prints (codes "7")) }
+    ensures sliced { events sliced 80 ≡ seen (prints (codes "5") ++ Panicked (codes "index out of bounds: the len is 2 but the index is 2") ∷ []) }
+    ensures partly_moved { events partly_moved 120 ≡ seen (drops (codes "1") ++ Panicked (codes "stop") ∷ drops (codes "2")) }
+    ensures out_of_box { events out_of_box 80 ≡ seen (drops (codes "1") ++ prints (codes "end")) }
+    ensures ended_frame { events ended_frame 80 ≡ invalid_after [] }
+    ensures closed_scope { events closed_scope 80 ≡ invalid_after [] }
+{
+}
+
+/// A closure in a closure takes its captures from it, and captured variables drop in capture order.
+pub fn closures_in_order()
+    ensures nested_whole { events nested_whole 160 ≡ seen (drops (codes "2") ++ prints (codes "end") ++ drops (codes "1")) }
+    ensures nested_field { events nested_field 160 ≡ seen (prints (codes "end") ++ drops (codes "1") ++ drops (codes "2")) }
+    ensures capture_order { events capture_order 160 ≡ seen (prints (codes "2") ++ prints (codes "1") ++ prints (codes "end") ++ drops (codes "2") ++ drops (codes "1") ++ prints (codes "after")) }
+{
+}
+
+/// Literal, range and alternative patterns, and `!`.
+pub fn patterns_and_complements()
+    ensures kinds { events kinds 160 ≡ seen (prints (codes "1") ++ prints (codes "2") ++ prints (codes "3") ++ prints (codes "4")) }
+    ensures complements { events complements 80 ≡ seen (prints (codes "-6") ++ prints (codes "255") ++ prints (codes "false")) }
 {
 }

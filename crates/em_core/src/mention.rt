@@ -1,6 +1,5 @@
 use em_base::{List, Span};
-use sqlite_items::Boxed;
-use sqlite_items::Items;
+use sqlite_items::{Boxed, Items};
 
 /// How a closure uses a variable, or captures it (Reference, "Capture modes").
 #[derive(Clone, Copy, Debug, PartialEq, Eq)]

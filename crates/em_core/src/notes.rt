@@ -13,17 +13,42 @@ pub struct RootNote {
 #[derive(Drop)]
 pub enum Note {
     /// A method call: its receiver with the receiver's type, its name, and the module that it stands in.
-    MethodCall { receiver: Span, ty: Ty, name: Token, arguments: u32, module: u32 },
+    MethodCall {
+        receiver: Span,
+        ty: Ty,
+        name: Token,
+        arguments: u32,
+        module: u32,
+    },
     /// A call `T::f`: the path of the type, the type, the function's name, and the module.
-    AssociatedCall { path: Span, ty: Ty, name: Token, module: u32 },
+    AssociatedCall {
+        path: Span,
+        ty: Ty,
+        name: Token,
+        module: u32,
+    },
     /// A trait that is used as a type without `dyn`: the path's first token.
-    BareTrait { first: Token },
+    BareTrait {
+        first: Token,
+    },
     /// A range pattern, by its dots.
-    RangePattern { dots: Token },
+    RangePattern {
+        dots: Token,
+    },
     /// The single message of `panic!` or `assert!`: the macro's name, the message with its type, and its text where it is a string literal.
-    Message { name: Token, message: Span, ty: Ty, literal: Option<Text> },
+    Message {
+        name: Token,
+        message: Span,
+        ty: Ty,
+        literal: Option<Text>,
+    },
     /// A closure, the first piece of its body with the piece's marks, and its variables.
-    ClosureMade { closure: Closure, body: Span, marks: List<Mark>, roots: List<RootNote> },
+    ClosureMade {
+        closure: Closure,
+        body: Span,
+        marks: List<Mark>,
+        roots: List<RootNote>,
+    },
 }
 
 /// The notes in the order of the source.

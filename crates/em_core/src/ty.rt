@@ -38,15 +38,27 @@ pub enum Ty {
     /// An array of so many elements.
     Array(Boxed<Ty>, u64),
     Slice(Boxed<Ty>),
-    Ref { to: Boxed<Ty>, unique: bool },
+    Ref {
+        to: Boxed<Ty>,
+        unique: bool,
+    },
     /// `Box` of the type.
     Boxed(Boxed<Ty>),
     /// A trait object, by the trait's number.
     Dyn(u32),
     /// A trait object of a closure trait, with the types of its arguments and of its result.
-    DynFn { kind: ClosureKind, arguments: Items<Ty>, result: Boxed<Ty> },
+    DynFn {
+        kind: ClosureKind,
+        arguments: Items<Ty>,
+        result: Boxed<Ty>,
+    },
     /// A closure by its number, and whether it is `Copy`, has no part with a Drop impl, and holds a reference.
-    Closure { id: u32, copy: bool, drop_free: bool, refers: bool },
+    Closure {
+        id: u32,
+        copy: bool,
+        drop_free: bool,
+        refers: bool,
+    },
     /// The iterator over an array's elements, which it owns; the type is that of an element.
     ArrayIter(Boxed<Ty>),
     /// The iterator over references to an array's or a slice's elements; the type is that of such a reference.

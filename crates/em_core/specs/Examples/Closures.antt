@@ -1,16 +1,18 @@
 -- Closures: what they capture decides when it drops.
-use Rattle.std.specs.Prelude.{ℕ, Bool, true, false, List, [], ◌∷◌, ◌++◌, Option, Some, None, codes}
-use Rattle.em_core.specs.declared.ty.Ty.{Ty, Def, Unit, roll-Ty}
+use Rattle.std.specs.Prelude.{ℕ, true, false, List, [], ◌∷◌, codes}
+use Rattle.em_core.specs.declared.ty.Ty.{Def, Unit, roll-Ty}
 use Rattle.em_core.specs.declared.ty.Ty.TheOpen.{Ty-F}
-use Rattle.em_core.specs.declared.ty.ClosureKind.{ClosureKind}
 use Rattle.em_core.specs.declared.ty.ClosureKind.TheVariants.{Fn, FnMut, FnOnce}
 use Rattle.em_core.specs.declared.expr.Expr.{Expr, roll-Expr}
 use Rattle.em_core.specs.declared.expr.Expr.TheOpen.{Expr-F}
 use Rattle.em_core.specs.declared.mention.By.TheVariants.{Shared, Unique, Value}
 use Rattle.em_core.specs.declared.function.Capture.{Capture}
 use Rattle.em_core.specs.declared.operator.BinaryOp.TheVariants.{Add}
+use Rattle.em_core.specs.declared.place.Base.TheVariants as base
+use Rattle.em_core.specs.declared.function.Variable.{Variable}
+use Rattle.em_core.specs.declared.function.ClosureEntry.{ClosureEntry}
 use Rattle.em_core.specs.declared.program.Core.{Core}
-use Rattle.em_core.specs.Examples.Short.{int, ty_d, unit, num, slot, root, dot, copy, move, seq, scope, init, assign, binary, call, say, show, d, p, main, program, capture, variable, closure, closure_ty}
+use Rattle.em_core.specs.Examples.Short.{int, ty_d, num, slot, root, dot, copy, move, seq, scope, init, assign, binary, call, say, show, d, p, main, program, capture, variable, closure, closure_ty}
 
 abbrev pub make : ℕ → Expr
 make id = roll-Expr (Expr-F.MakeClosure id)
@@ -54,7 +56,7 @@ counter = program (main (int ∷ closure_ty 0 ∷ []) (scope (0 ∷ 1 ∷ []) (i
 abbrev pub two_ways : Core
 two_ways = program (main (Def 1 ∷ closure_ty 0 ∷ []) (scope (0 ∷ 1 ∷ []) (init 0 (p 1 2) ∷ init 1 (make 0) ∷ call_once 1 ∷ say (codes "end") ∷ []))
     (closure 0 FnOnce [] (variable 0 (Def 1) (capture (record { def = 1; field = 0 } ∷ []) Value false ∷ capture (record { def = 1; field = 1 } ∷ record { def = 0; field = 0 } ∷ []) Shared true ∷ []) ∷ [])
-        (seq (show (copy (dot (dot (root 0) 1 1) 0 0)) ∷ call 1 (move (dot (root 0) 1 0) ∷ []) ∷ [])) ∷ []) ∷ [])
+    (seq (show (copy (dot (dot (root 0) 1 1) 0 0)) ∷ call 1 (move (dot (root 0) 1 0) ∷ []) ∷ [])) ∷ []) ∷ [])
 
 -- fn main() { let a = D(1); let b: Box<dyn FnOnce()> = Box::new(move || { let _ = &a; println!("in"); }); b(); println!("end"); }
 abbrev pub boxed_once : Core
@@ -63,3 +65,23 @@ boxed_once = program (main (ty_d ∷ roll-Ty (Ty-F.Boxed (roll-Ty (Ty-F.DynFn Fn
     init 1 (roll-Expr (Expr-F.Unsize (roll-Ty (Ty-F.Boxed (closure_ty 0))) (roll-Ty (Ty-F.Boxed (roll-Ty (Ty-F.DynFn FnOnce [] Unit)))) (roll-Expr (Expr-F.BoxNew (closure_ty 0) (make 0))))) ∷
     call_once 1 ∷ say (codes "end") ∷ []))
     (closure 0 Fn [] (variable 0 ty_d (capture [] Value false ∷ []) ∷ []) (say (codes "in")) ∷ []) ∷ [])
+
+-- fn main() { let q = P { a: D(1), b: D(2) }; let c = || || q.a; let d = c(); let e = d(); println!("end"); }   with these captures of both closures
+abbrev pub nested : Capture → Core
+nested c = program (main (Def 1 ∷ closure_ty 0 ∷ closure_ty 1 ∷ ty_d ∷ []) (scope (0 ∷ 1 ∷ 2 ∷ 3 ∷ []) (
+    init 0 (p 1 2) ∷ init 1 (make 0) ∷ init 2 (call_once 1) ∷ init 3 (call_once 2) ∷ say (codes "end") ∷ []))
+    (record (closure 0 FnOnce [] (variable 0 (Def 1) (c ∷ []) ∷ []) (make 1)) { result = closure_ty 1 } ∷
+     record (closure 1 FnOnce [] (record { base = base.Root 0; ty = Def 1; captures = c ∷ [] } ∷ []) (move (dot (root 0) 1 0))) { result = ty_d } ∷ []) ∷ [])
+
+abbrev pub nested_whole : Core
+nested_whole = nested (capture [] Value false)
+
+abbrev pub nested_field : Core
+nested_field = nested (capture (record { def = 1; field = 0 } ∷ []) Value false)
+
+-- fn main() { let a = D(1); let b = D(2); let c = move || { println!("{}", b.0); println!("{}", a.0); }; c(); println!("end"); drop(c); println!("after"); }   before 2021
+abbrev pub capture_order : Core
+capture_order = program (main (ty_d ∷ ty_d ∷ closure_ty 0 ∷ closure_ty 0 ∷ []) (scope (0 ∷ 1 ∷ 2 ∷ []) (
+    init 0 (d 1) ∷ init 1 (d 2) ∷ init 2 (make 0) ∷ call_by 2 [] ∷ say (codes "end") ∷ roll-Expr (Expr-F.DropValue 3 (move (slot 2))) ∷ say (codes "after") ∷ []))
+    (closure 0 Fn [] (variable 1 ty_d (capture [] Value false ∷ []) ∷ variable 0 ty_d (capture [] Value false ∷ []) ∷ [])
+        (seq (show (copy (dot (root 0) 0 0)) ∷ show (copy (dot (root 1) 0 0)) ∷ [])) ∷ []) ∷ [])

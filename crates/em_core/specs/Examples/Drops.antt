@@ -1,11 +1,11 @@
 -- Drops in order: fields, locals, parameters, assignments, boxes, `drop`.
-use Rattle.std.specs.Prelude.{ℕ, List, [], ◌∷◌, ◌++◌, Option, Some, None, codes}
-use Rattle.em_core.specs.declared.ty.Ty.{Ty, Def, Unit, roll-Ty}
+use Rattle.std.specs.Prelude.{[], ◌∷◌, codes}
+use Rattle.em_core.specs.declared.ty.Ty.{Def, Unit, roll-Ty}
 use Rattle.em_core.specs.declared.ty.Ty.TheOpen.{Ty-F}
-use Rattle.em_core.specs.declared.expr.Expr.{Expr, roll-Expr}
+use Rattle.em_core.specs.declared.expr.Expr.{roll-Expr}
 use Rattle.em_core.specs.declared.expr.Expr.TheOpen.{Expr-F}
 use Rattle.em_core.specs.declared.program.Core.{Core}
-use Rattle.em_core.specs.Examples.Short.{ty_d, unit, num, slot, dot, deref, copy, move, seq, scope, init, assign, call, say, show, d, p, function, main, program}
+use Rattle.em_core.specs.Examples.Short.{ty_d, slot, dot, deref, copy, move, seq, scope, init, assign, call, say, show, d, p, function, main, program}
 
 -- fn main() { let p = P { a: D(1), b: D(2) }; println!("end"); }
 abbrev pub fields : Core

@@ -1,15 +1,13 @@
 -- Panics: the drops on the way out, a panic in a drop, and the panics of operators and indices.
-use Rattle.std.specs.Prelude.{ℕ, ℤ, pos, negsuc, List, [], ◌∷◌, ◌++◌, Option, Some, None, codes}
-use Rattle.em_core.specs.declared.ty.Ty.{Ty, Def, Unit, Int}
+use Rattle.std.specs.Prelude.{ℕ, ℤ, pos, negsuc, [], ◌∷◌, Some, codes}
+use Rattle.em_core.specs.declared.ty.Ty.{Def, Unit, Int}
 use Rattle.em_core.specs.declared.ty.IntKind.{IntKind}
-use Rattle.em_core.specs.declared.ty.IntKind.TheVariants.{I32, U8, Usize}
+use Rattle.em_core.specs.declared.ty.IntKind.TheVariants.{I32, Usize}
 use Rattle.em_core.specs.declared.expr.Expr.{Expr, roll-Expr}
 use Rattle.em_core.specs.declared.expr.Expr.TheOpen.{Expr-F}
 use Rattle.em_core.specs.declared.operator.Constant.TheVariants as constant
 use Rattle.em_core.specs.declared.operator.UnaryOp.TheVariants as unary
 use Rattle.em_core.specs.declared.operator.BinaryOp.{BinaryOp}
-use Rattle.em_core.specs.declared.operator.BinaryOp.TheVariants.{Add, Subtract, Multiply, Divide, Remainder, ShiftLeft, ShiftRight}
-use Rattle.em_core.specs.declared.definition.TypeDef.{TypeDef}
 use Rattle.em_core.specs.declared.function.Function.{Function}
 use Rattle.em_core.specs.declared.program.Core.{Core}
 use Rattle.em_core.specs.Examples.Short.{int, ty_d, unique, array, unit, num, slot, dot, deref, at, copy, move, seq, scope, init, assign, equal, choose, binary, build, call, say, say_and_show, show, fail, d, def, function, main, program, program_with}

@@ -1,28 +1,19 @@
 -- Short names for Cores that are written by hand.
-use Rattle.std.specs.Prelude.{ℕ, zero, suc, ℤ, pos, negsuc, Bool, true, false, List, [], ◌∷◌, ◌++◌, Option, Some, None, codes}
-use Rattle.em_base.specs.declared.place.Place.{Place}
+use Rattle.std.specs.Prelude.{ℕ, pos, Bool, true, false, List, [], ◌∷◌, ◌++◌, Option, Some, None, codes}
 use Rattle.em_core.specs.declared.ty.Ty.{Ty, Unit, Def, Int, Closure, roll-Ty}
 use Rattle.em_core.specs.declared.ty.Ty.TheOpen.{Ty-F}
-use Rattle.em_core.specs.declared.ty.IntKind.{IntKind}
-use Rattle.em_core.specs.declared.ty.IntKind.TheVariants.{I32, Usize}
+use Rattle.em_core.specs.declared.ty.IntKind.TheVariants.{I32}
 use Rattle.em_core.specs.declared.ty.ClosureKind.{ClosureKind}
 use Rattle.em_core.specs.declared.expr.Expr.{Expr, roll-Expr}
 use Rattle.em_core.specs.declared.expr.Expr.TheOpen.{Expr-F}
-use Rattle.em_core.specs.declared.expr.Arm.{Arm, roll-Arm}
-use Rattle.em_core.specs.declared.expr.Piece.{Piece}
 use Rattle.em_core.specs.declared.expr.Piece.TheVariants as piece
-use Rattle.em_core.specs.declared.operator.Constant.{Constant}
 use Rattle.em_core.specs.declared.operator.Constant.TheVariants as constant
 use Rattle.em_core.specs.declared.operator.BinaryOp.{BinaryOp}
-use Rattle.em_core.specs.declared.operator.CompareOp.{CompareOp}
 use Rattle.em_core.specs.declared.operator.CompareOp.TheVariants as compare
-use Rattle.em_core.specs.declared.place.Base.{Base}
 use Rattle.em_core.specs.declared.place.Base.TheVariants as base
-use Rattle.em_core.specs.declared.place.PlaceStep.{PlaceStep}
 use Rattle.em_core.specs.declared.place.PlaceStep.TheVariants as along
 use Rattle.em_core.specs.declared.place.PlaceExpr.{PlaceExpr}
 use Rattle.em_core.specs.declared.definition.TypeDef.{TypeDef}
-use Rattle.em_core.specs.declared.definition.Variant.{Variant}
 use Rattle.em_core.specs.declared.function.Capture.{Capture}
 use Rattle.em_core.specs.declared.function.FieldStep.{FieldStep}
 use Rattle.em_core.specs.declared.function.Variable.{Variable}
@@ -162,7 +153,7 @@ program_with ts ms fs = record {
   types = def (codes "D") (int ∷ []) (Some 0) ∷ def (codes "P") (ty_d ∷ ty_d ∷ []) None ∷ ts;
   functions = drop_function ∷ eat_function ∷ fs;
   methods = ms;
-  entry = Some 2
+  entry = Some 2;
 }
 
 abbrev pub program : List Function → Core
