@@ -12,7 +12,7 @@ use Rattle.em_core.specs.declared.operator.BinaryOp.{BinaryOp}
 use Rattle.em_core.specs.declared.operator.BinaryOp.TheVariants as binary
 use Rattle.em_core.specs.declared.operator.CompareOp.{CompareOp}
 use Rattle.em_core.specs.declared.operator.CompareOp.TheVariants as compare
-use Rattle.em_core.specs.Values.{Panicked, Try, Done, Panics, Stuck, Value, Number, Truth, Character, Text, UnitValue}
+use Rattle.em_core.specs.Values.{Panicked, Try, Done, Panics, Stuck, Value, Number, Truth, Character, Text, UnitValue, same_kind}
 
 abbrev pub width : IntKind → Width
 width I8 = w8
@@ -49,21 +49,6 @@ is_signed U16 = false
 is_signed U32 = false
 is_signed U64 = false
 is_signed Usize = false
-
-abbrev pub kind_number : IntKind → ℕ
-kind_number I8 = 0
-kind_number I16 = 1
-kind_number I32 = 2
-kind_number I64 = 3
-kind_number Isize = 4
-kind_number U8 = 5
-kind_number U16 = 6
-kind_number U32 = 7
-kind_number U64 = 8
-kind_number Usize = 9
-
-abbrev pub same_kind : IntKind → IntKind → Bool
-same_kind k j = kind_number k == kind_number j
 
 -- the least number of a type, and the greatest
 abbrev pub least : IntKind → ℤ

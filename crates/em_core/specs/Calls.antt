@@ -7,8 +7,7 @@ use Rattle.em_core.specs.declared.methods.ImplFunction.{ImplFunction}
 use Rattle.em_core.specs.declared.methods.Owner.{Owner}
 use Rattle.em_core.specs.declared.methods.Owner.TheVariants as owner
 use Rattle.em_core.specs.declared.program.Core.{Core}
-use Rattle.em_core.specs.Values.{Try, Done, Invalid, Stuck, and_then, or_stuck, Code, Fn, Cl, Address, Value, Number, Truth, Character, UnitValue, Struct, Box, Refers, Closure, Moved, Hole}
-use Rattle.em_core.specs.Arithmetic.{same_kind}
+use Rattle.em_core.specs.Values.{Try, Done, Invalid, Stuck, and_then, or_stuck, Code, Fn, Cl, Address, Value, Number, Truth, Character, UnitValue, Struct, Box, Refers, Closure, Moved, Hole, same_kind}
 use Rattle.em_core.specs.Facts.{slots_of, body_of, closure_type}
 use Rattle.em_core.specs.States.{Cell, Item, Evaluate, State, cells_of, all_frames, look, drop_parameters, drop_items}
 

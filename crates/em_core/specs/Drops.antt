@@ -2,8 +2,8 @@
 use Rattle.std.specs.Prelude.{ℕ, zero, suc, if◌then◌else◌, ◌==◌, List, [], ◌∷◌, ◌++◌, Option, Some, None}
 use Rattle.em_core.specs.declared.ty.Ty.{Ty, out-Ty}
 use Rattle.em_core.specs.declared.program.Core.{Core}
-use Rattle.em_core.specs.Values.{Step, Fld, Elem, Inside, Rt, Value, Struct, Array, Box, Closure, Root, Partial, Owned, Values, no_more, more, Try, Done, and_then, child}
-use Rattle.em_core.specs.Facts.{field_type, drop_of, variable_type, def_in, closure_in, element_in, item_in, content_in, content_type, type_below}
+use Rattle.em_core.specs.Values.{Step, Fld, Elem, Inside, Rt, Value, Struct, Array, Box, Closure, Root, Partial, Owned, Values, no_more, more, Try, Done, and_then, child, tag_in}
+use Rattle.em_core.specs.Facts.{field_type, drop_of, variable_type, def_in, closure_in, element_in, item_in, content_in, content_type, type_below, or_never}
 
 -- what a drop has still to visit: the parts of the value at a path, from a number on
 pub record Todo : Type 0 where
@@ -59,7 +59,7 @@ module _ (core : Core) where
     seek (Partial d k vs) t p = if_def t d (seek_in vs (λ i. field_type core d k i) (λ i. Fld d k i) 0 p)
     seek (Array vs) t p = if_some (element_in (out-Ty t)) (seek_in vs (λ i. type_below core t (Elem i)) Elem 0 p)
     seek (Owned vs) t p = if_some (item_in (out-Ty t)) (seek_in vs (λ i. type_below core t (Elem i)) Elem 0 p)
-    seek (Box u v) t p = if_some (content_in (out-Ty t)) (and_todo (seek v (content_type (type_below core t Inside) u) (p ++ Inside ∷ [])) (record { path = p; from = 1 }))
+    seek (Box u v) t p = if_some (content_in (out-Ty t)) (and_todo (seek v (content_type (or_never (content_in (out-Ty t))) u) (p ++ Inside (tag_in (out-Ty u)) ∷ [])) (record { path = p; from = 1 }))
     seek (Closure j vs) t p = if_closure t j (seek_in vs (λ k. variable_type core j k) (λ k. Rt j k) 0 p)
     seek (Root v bs) t p = seek v t p
     seek _ t p = None

@@ -91,5 +91,5 @@ content_type t u = if is_object (out-Ty t) then u else t
 abbrev pub type_below : Core → Ty → Step → Ty
 type_below c t (Fld d k i) = field_type c d k i
 type_below c t (Elem i) = elim (element_in (out-Ty t)) [ Some e ↦ e | None ↦ or_never (item_in (out-Ty t)) ]
-type_below c t Inside = or_never (content_in (out-Ty t))
+type_below c t (Inside g) = or_never (content_in (out-Ty t))
 type_below c t (Rt id k) = variable_type c id k

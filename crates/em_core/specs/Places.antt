@@ -5,14 +5,15 @@ use Rattle.em_core.specs.declared.place.Base.TheVariants as base
 use Rattle.em_core.specs.declared.place.PlaceStep.{PlaceStep}
 use Rattle.em_core.specs.declared.place.PlaceStep.TheVariants as along
 use Rattle.em_core.specs.declared.place.PlaceExpr.{PlaceExpr}
-use Rattle.em_core.specs.Values.{Panicked, Try, Done, Panics, Invalid, Stuck, and_then, or_stuck, Code, Cl, Step, Fld, Elem, Inside, Rt, Address, Borrowed, Value, Number, Array, Box, Refers, Closure, Root, Moved, Hole, nth, count_of}
+use Rattle.em_core.specs.declared.ty.Ty.{out-Ty}
+use Rattle.em_core.specs.Values.{Panicked, Try, Done, Panics, Invalid, Stuck, and_then, or_stuck, Code, Cl, Step, Fld, Elem, Inside, Rt, Address, Borrowed, Value, Number, Array, Box, Refers, Closure, Root, Moved, Hole, nth, count_of, same_tag, tag_in}
 use Rattle.em_core.specs.Arithmetic.{bounds_text}
 use Rattle.em_core.specs.States.{Frame, State, all_frames, look, read}
 
 abbrev pub same_step : Step → Step → Bool
 same_step (Fld d k i) (Fld e l j) = (d == e) && (k == l) && (i == j)
 same_step (Elem i) (Elem j) = i == j
-same_step Inside Inside = true
+same_step (Inside g) (Inside h) = same_tag g h
 same_step (Rt d i) (Rt e j) = (d == e) && (i == j)
 same_step _ _ = false
 
@@ -42,7 +43,7 @@ after_fields ps = ps
 -- what a reference leads to, or what a box holds
 abbrev pub target : Address → Value → Try Address
 target a (Refers b) = Done b
-target a (Box t v) = Done (below_address a (Inside ∷ []))
+target a (Box t v) = Done (below_address a (Inside (tag_in (out-Ty t)) ∷ []))
 target a Moved = Invalid
 target a Hole = Invalid
 target a _ = Stuck

@@ -7,8 +7,8 @@ use Rattle.em_core.specs.declared.expr.Piece.{Piece}
 use Rattle.em_core.specs.declared.expr.Piece.TheVariants as piece
 use Rattle.em_core.specs.declared.pattern.Pattern.{Pattern}
 use Rattle.em_core.specs.declared.program.Core.{Core}
-use Rattle.em_core.specs.Values.{Panicked, PanickedWith, Printed, Dropped, Try, Done, Panics, Invalid, Stuck, and_then, Address, Elem, Value, Number, Truth, UnitValue, Struct, Array, Box, Refers, Owned, Borrows, Range, Moved, Hole, no_more, more, values_of, count_of, copies_of}
-use Rattle.em_core.specs.Arithmetic.{same_kind, of_constant, of_unary, of_binary, of_compare, shown}
+use Rattle.em_core.specs.Values.{Panicked, PanickedWith, Printed, Dropped, Try, Done, Panics, Invalid, Stuck, and_then, Address, Elem, Value, Number, Truth, UnitValue, Struct, Array, Box, Refers, Owned, Borrows, Range, Moved, Hole, no_more, more, values_of, count_of, copies_of, same_kind}
+use Rattle.em_core.specs.Arithmetic.{of_constant, of_unary, of_binary, of_compare, shown}
 use Rattle.em_core.specs.Drops.{Todo, Found, seek, seek_parts, typed_part}
 use Rattle.em_core.specs.States.{Item, Evaluate, Put, Replace, DropAt, Store, ApplyUnary, ApplyBinary, ApplyCompare, MakeStruct, MakeArray, MakeCopies, MakeBox, MakeRange, Enter, EnterDyn, EnterBy, EnterOnce, Choose, Again, GiveBack, Toss, Say, Fail, FailWith, MakeIter, MakeRefIter, DropOwn, GiveUnit, Leave, DropSlot, DropRest, DropCall, Empty, Shut, Unwound}
 use Rattle.em_core.specs.States.{Frame, Mode, Ended, State, frame_at, cell_at, ty_of, with_cell, with_cells_at, look, read, write, all_frames, with_frames, go, give, with_cells, with_operands, with_event, pop, pop_all, pop_two, give_all, rows, exits, innermost, lowest, leave_items, drop_items, panicked}

@@ -1,7 +1,9 @@
 -- Events, outcomes, addresses and values, and how a part of a value is read and changed.
 use Rattle.std.specs.Prelude.{ℕ, zero, suc, ℤ, Bool, true, false, ◌&&◌, if◌then◌else◌, ◌==◌, List, [], ◌∷◌, Option, Some, None}
-use Rattle.em_core.specs.declared.ty.Ty.{Ty}
+use Rattle.em_core.specs.declared.ty.Ty.{Ty, out-Ty}
+use Rattle.em_core.specs.declared.ty.Ty.TheOpen.{Ty-F}
 use Rattle.em_core.specs.declared.ty.IntKind.{IntKind}
+use Rattle.em_core.specs.declared.ty.IntKind.TheVariants.{I8, I16, I32, I64, Isize, U8, U16, U32, U64, Usize}
 
 -- what is seen of a run
 pub data Event : Type 0 where
@@ -37,11 +39,55 @@ pub data Code : Type 0 where
   Fn : (function : ℕ) → Code
   Cl : (id : ℕ) → Code
 
+-- a type that a trait object can hide
+pub data Tag : Type 0 where
+  OfInt : IntKind → Tag
+  OfBool : Tag
+  OfChar : Tag
+  OfUnit : Tag
+  OfDef : ℕ → Tag
+  OfClosure : ℕ → Tag
+  OfOther : Tag
+
+abbrev pub tag_in : Ty-F Ty → Tag
+tag_in (Ty-F.Int k) = OfInt k
+tag_in Ty-F.Bool = OfBool
+tag_in Ty-F.Char = OfChar
+tag_in Ty-F.Unit = OfUnit
+tag_in (Ty-F.Def d) = OfDef d
+tag_in (Ty-F.Closure id copy drop_free refers) = OfClosure id
+tag_in _ = OfOther
+
+abbrev pub kind_number : IntKind → ℕ
+kind_number I8 = 0
+kind_number I16 = 1
+kind_number I32 = 2
+kind_number I64 = 3
+kind_number Isize = 4
+kind_number U8 = 5
+kind_number U16 = 6
+kind_number U32 = 7
+kind_number U64 = 8
+kind_number Usize = 9
+
+abbrev pub same_kind : IntKind → IntKind → Bool
+same_kind k j = kind_number k == kind_number j
+
+abbrev pub same_tag : Tag → Tag → Bool
+same_tag (OfInt k) (OfInt j) = same_kind k j
+same_tag OfBool OfBool = true
+same_tag OfChar OfChar = true
+same_tag OfUnit OfUnit = true
+same_tag (OfDef d) (OfDef e) = d == e
+same_tag (OfClosure i) (OfClosure j) = i == j
+same_tag OfOther OfOther = true
+same_tag _ _ = false
+
 -- one step of an address. It names its owner, so that a place of another type is no place
 pub data Step : Type 0 where
   Fld : (def variant field : ℕ) → Step
   Elem : ℕ → Step  -- an element of an array, or of what an iterator has left
-  Inside : Step  -- what a box holds
+  Inside : Tag → Step  -- what a box holds, of this type
   Rt : (id variable : ℕ) → Step  -- a captured variable of a closure
 
 -- where a value stands: a part of a slot
@@ -107,13 +153,13 @@ abbrev pub held : Value → Try Value
 held (Root v bs) = Done v
 held _ = Stuck
 
--- the part one step down. A part of Moved or Hole is no part, and neither is a field of another variant
+-- the part one step down. A part of Moved or Hole is no part, and neither is a field of another variant or what a box no longer holds
 abbrev pub child : Value → Step → Try Value
 child (Struct d k vs) (Fld e l i) = if d == e then (if k == l then or_stuck (nth vs i) else Invalid) else Stuck
 child (Partial d k vs) (Fld e l i) = if d == e then (if k == l then or_stuck (nth vs i) else Invalid) else Stuck
 child (Array vs) (Elem i) = or_stuck (nth vs i)
 child (Owned vs) (Elem i) = or_stuck (nth vs i)
-child (Box t v) Inside = Done v
+child (Box t v) (Inside g) = if same_tag (tag_in (out-Ty t)) g then Done v else Invalid
 child (Closure j vs) (Rt i k) = if j == i then and_then (or_stuck (nth vs k)) held else Stuck
 child Moved s = Invalid
 child Hole s = Invalid
@@ -133,7 +179,7 @@ change (Struct d k vs) (Fld e l i) f = if d == e then (if k == l then changed_nt
 change (Partial d k vs) (Fld e l i) f = if d == e then (if k == l then changed_nth vs i f (Partial d k) else Invalid) else Stuck
 change (Array vs) (Elem i) f = changed_nth vs i f Array
 change (Owned vs) (Elem i) f = changed_nth vs i f Owned
-change (Box t v) Inside f = and_then (f v) (λ x. Done (Box t x))
+change (Box t v) (Inside g) f = if same_tag (tag_in (out-Ty t)) g then and_then (f v) (λ x. Done (Box t x)) else Invalid
 change (Closure j vs) (Rt i k) f = if j == i then changed_nth vs k (changed_root f) (Closure j) else Stuck
 change Moved s f = Invalid
 change Hole s f = Invalid
