@@ -5,3 +5,4 @@ pub mod Panics
 pub mod Closures
 pub mod Values
 pub mod Places
+pub mod Types

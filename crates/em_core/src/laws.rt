@@ -10,6 +10,8 @@ ghost use Rattle.em_core.specs.Examples.Drops.{fields, moved_into_call, locals, 
 ghost use Rattle.em_core.specs.Examples.Panics.{unwinding, panic_in_drop, abort, panic_in_assignment, panic_value, operation, negation, least, indexed};
 ghost use Rattle.em_core.specs.Examples.Closures.{whole_variable, one_field, whole_value, copied_field, counter, two_ways, boxed_once, nested_whole, nested_field, capture_order};
 ghost use Rattle.em_core.specs.Examples.Values.{by_value, broken_off, by_reference, counted, returns, matched_by_move, matched_by_reference, failing_let, trait_object, formats, kinds, complements};
+ghost use Rattle.em_core.specs.Examples.Types.{GivesInMain, whole_main, no_slot};
+ghost use Rattle.em_core.specs.declared.ty.Ty.{Ty, Unit};
 ghost use Rattle.em_core.specs.Examples.Places.{repeated, written_through, sliced, partly_moved, out_of_box, ended_frame, closed_scope};
 
 /// Drops come in order: fields as declared, locals in reverse, parameters last, an old value after the new one is computed.
@@ -103,5 +105,12 @@ pub fn closures_in_order()
 pub fn patterns_and_complements()
     ensures kinds { events kinds 160 ≡ seen (prints (codes "1") ++ prints (codes "2") ++ prints (codes "3") ++ prints (codes "4")) }
     ensures complements { events complements 80 ≡ seen (prints (codes "-6") ++ prints (codes "255") ++ prints (codes "false")) }
+{
+}
+
+/// A body whose parts fit gives its type, and an expression that names a slot out of range has none.
+pub fn types_fit()
+    ensures whole_main { GivesInMain whole_main Unit }
+    ensures no_slot { (t : Ty) → GivesInMain no_slot t → ⊥ }
 {
 }
