@@ -14,6 +14,7 @@ mod operator;
 mod pattern;
 mod place;
 mod program;
+mod same;
 mod ty;
 
 pub use definition::{TypeDef, Variant};
@@ -27,4 +28,5 @@ pub use operator::{BinaryOp, CompareOp, Constant, UnaryOp};
 pub use pattern::{Binding, Pattern, PatternPart, Test, VariantField};
 pub use place::{Base, PlaceExpr, PlaceStep};
 pub use program::{Core, Difference};
+pub use same::{same_type, same_types};
 pub use ty::{ClosureKind, IntKind, Ty};
