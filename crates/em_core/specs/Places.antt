@@ -1,5 +1,5 @@
 -- Where a place stands. Finding it takes no step.
-use Rattle.std.specs.Prelude.{ℕ, pos, Bool, true, false, ◌&&◌, if◌then◌else◌, ◌==◌, nat_lt, List, [], ◌∷◌, ◌++◌, Option, Some, None}
+use Rattle.std.specs.Prelude.{ℕ, pos, Bool, false, ◌&&◌, if◌then◌else◌, ◌==◌, nat_lt, List, [], ◌∷◌, ◌++◌, Option, Some, None}
 use Rattle.em_core.specs.declared.place.Base.{Base}
 use Rattle.em_core.specs.declared.place.Base.TheVariants as base
 use Rattle.em_core.specs.declared.place.PlaceStep.{PlaceStep}

@@ -6,7 +6,7 @@ ghost use Rattle.em_core.specs.declared.operator.BinaryOp.TheVariants.{Add, Subt
 ghost use Rattle.em_core.specs.Values.{Printed, Dropped, Panicked, PanickedWith, Aborted};
 ghost use Rattle.em_core.specs.Runs.{events};
 ghost use Rattle.em_core.specs.Examples.Short.{seen, invalid_after, prints, drops, int};
-ghost use Rattle.em_core.specs.Examples.Drops.{fields, moved_into_call, locals, assignment, part_moved, boxed, dropped, moved_value};
+ghost use Rattle.em_core.specs.Examples.Drops.{owner_first, fields, moved_into_call, locals, assignment, part_moved, boxed, dropped, moved_value};
 ghost use Rattle.em_core.specs.Examples.Panics.{unwinding, panic_in_drop, abort, panic_in_assignment, panic_value, operation, negation, least, indexed};
 ghost use Rattle.em_core.specs.Examples.Closures.{whole_variable, one_field, whole_value, copied_field, counter, two_ways, boxed_once, nested_whole, nested_field, capture_order};
 ghost use Rattle.em_core.specs.Examples.Values.{by_value, broken_off, by_reference, counted, returns, matched_by_move, matched_by_reference, failing_let, trait_object, formats, kinds, complements};
@@ -21,6 +21,7 @@ pub fn drops_in_order()
     ensures locals { events locals 120 ≡ seen (prints (codes "body") ++ drops (codes "4") ++ drops (codes "3") ++ drops (codes "2") ++ drops (codes "1") ++ prints (codes "end")) }
     ensures assignment { events assignment 80 ≡ seen (prints (codes "make") ++ drops (codes "1") ++ prints (codes "set") ++ drops (codes "2")) }
     ensures part_moved { events part_moved 120 ≡ seen (drops (codes "1") ++ prints (codes "ate") ++ prints (codes "end") ++ drops (codes "3") ++ drops (codes "2")) }
+    ensures owner_first { events owner_first 80 ≡ seen (prints (codes "end") ++ Dropped 2 ∷ Printed (codes "drop W") ∷ drops (codes "1")) }
     ensures boxed { events boxed 80 ≡ seen (prints (codes "1") ++ prints (codes "end") ++ drops (codes "1")) }
     ensures dropped { events dropped 80 ≡ seen (drops (codes "1") ++ prints (codes "end")) }
     ensures moved_value { events moved_value 80 ≡ invalid_after (drops (codes "1")) }
@@ -90,27 +91,23 @@ pub fn places_lead()
     ensures out_of_box { events out_of_box 80 ≡ seen (drops (codes "1") ++ prints (codes "end")) }
     ensures ended_frame { events ended_frame 80 ≡ invalid_after [] }
     ensures closed_scope { events closed_scope 80 ≡ invalid_after [] }
-{
-}
+{}
 
 /// A closure in a closure takes its captures from it, and captured variables drop in capture order.
 pub fn closures_in_order()
     ensures nested_whole { events nested_whole 160 ≡ seen (drops (codes "2") ++ prints (codes "end") ++ drops (codes "1")) }
     ensures nested_field { events nested_field 160 ≡ seen (prints (codes "end") ++ drops (codes "1") ++ drops (codes "2")) }
     ensures capture_order { events capture_order 160 ≡ seen (prints (codes "2") ++ prints (codes "1") ++ prints (codes "end") ++ drops (codes "2") ++ drops (codes "1") ++ prints (codes "after")) }
-{
-}
+{}
 
 /// Literal, range and alternative patterns, and `!`.
 pub fn patterns_and_complements()
     ensures kinds { events kinds 160 ≡ seen (prints (codes "1") ++ prints (codes "2") ++ prints (codes "3") ++ prints (codes "4")) }
     ensures complements { events complements 80 ≡ seen (prints (codes "-6") ++ prints (codes "255") ++ prints (codes "false")) }
-{
-}
+{}
 
 /// A body whose parts fit gives its type, and an expression that names a slot out of range has none.
 pub fn types_fit()
     ensures whole_main { GivesInMain whole_main Unit }
     ensures no_slot { (t : Ty) → GivesInMain no_slot t → ⊥ }
-{
-}
+{}

@@ -20,7 +20,10 @@ mod ty;
 pub use definition::{TypeDef, Variant};
 pub use expr::{Arm, Expr, Piece};
 pub use function::{Capture, ClosureEntry, FieldStep, Function, Variable};
-pub use laws::{closures_capture, closures_in_order, control_and_values, drops_in_order, operators_panic, panics_unwind, patterns_and_complements, places_lead, types_fit};
+pub use laws::{
+    closures_capture, closures_in_order, control_and_values, drops_in_order, operators_panic,
+    panics_unwind, patterns_and_complements, places_lead, types_fit,
+};
 pub use mention::{By, Closure, Mention, Mentioned, PathStep};
 pub use methods::{Impl, ImplFunction, Method, Methods, Owner, Receiver, Signature};
 pub use notes::{Note, Notes, RootNote};

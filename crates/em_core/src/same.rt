@@ -37,7 +37,8 @@ pub fn same_type(a: &Ty, b: &Ty) -> bool
             _ => false,
         },
         Ty::Array(element, length) => match b {
-            Ty::Array(other, other_length) => length == other_length && same_type(element.get(), other.get()),
+            Ty::Array(other, other_length) => length == other_length
+                && same_type(element.get(), other.get()),
             _ => false,
         },
         Ty::Slice(element) => match b {
@@ -45,7 +46,10 @@ pub fn same_type(a: &Ty, b: &Ty) -> bool
             _ => false,
         },
         Ty::Ref { to, unique } => match b {
-            Ty::Ref { to: other, unique: other_unique } => unique == other_unique && same_type(to.get(), other.get()),
+            Ty::Ref {
+                to: other,
+                unique: other_unique,
+            } => unique == other_unique && same_type(to.get(), other.get()),
             _ => false,
         },
         Ty::Boxed(content) => match b {
@@ -56,12 +60,35 @@ pub fn same_type(a: &Ty, b: &Ty) -> bool
             Ty::Dyn(other) => of == other,
             _ => false,
         },
-        Ty::DynFn { kind, arguments, result } => match b {
-            Ty::DynFn { kind: other_kind, arguments: others, result: other } => kind == other_kind && same_types(arguments.as_slice(), others.as_slice()) && same_type(result.get(), other.get()),
+        Ty::DynFn {
+            kind,
+            arguments,
+            result,
+        } => match b {
+            Ty::DynFn {
+                kind: other_kind,
+                arguments: others,
+                result: other,
+            } => kind == other_kind
+                && same_types(arguments.as_slice(), others.as_slice())
+                && same_type(result.get(), other.get()),
             _ => false,
         },
-        Ty::Closure { id, copy, drop_free, refers } => match b {
-            Ty::Closure { id: other, copy: other_copy, drop_free: other_drop_free, refers: other_refers } => id == other && copy == other_copy && drop_free == other_drop_free && refers == other_refers,
+        Ty::Closure {
+            id,
+            copy,
+            drop_free,
+            refers,
+        } => match b {
+            Ty::Closure {
+                id: other,
+                copy: other_copy,
+                drop_free: other_drop_free,
+                refers: other_refers,
+            } => id == other
+                && copy == other_copy
+                && drop_free == other_drop_free
+                && refers == other_refers,
             _ => false,
         },
         Ty::ArrayIter(item) => match b {

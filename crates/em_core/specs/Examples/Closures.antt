@@ -9,8 +9,6 @@ use Rattle.em_core.specs.declared.mention.By.TheVariants.{Shared, Unique, Value}
 use Rattle.em_core.specs.declared.function.Capture.{Capture}
 use Rattle.em_core.specs.declared.operator.BinaryOp.TheVariants.{Add}
 use Rattle.em_core.specs.declared.place.Base.TheVariants as base
-use Rattle.em_core.specs.declared.function.Variable.{Variable}
-use Rattle.em_core.specs.declared.function.ClosureEntry.{ClosureEntry}
 use Rattle.em_core.specs.declared.program.Core.{Core}
 use Rattle.em_core.specs.Examples.Short.{int, ty_d, num, slot, root, dot, copy, move, seq, scope, init, assign, binary, call, say, show, d, p, main, program, capture, variable, closure, closure_ty}
 
@@ -71,7 +69,7 @@ abbrev pub nested : Capture → Core
 nested c = program (main (Def 1 ∷ closure_ty 0 ∷ closure_ty 1 ∷ ty_d ∷ []) (scope (0 ∷ 1 ∷ 2 ∷ 3 ∷ []) (
     init 0 (p 1 2) ∷ init 1 (make 0) ∷ init 2 (call_once 1) ∷ init 3 (call_once 2) ∷ say (codes "end") ∷ []))
     (record (closure 0 FnOnce [] (variable 0 (Def 1) (c ∷ []) ∷ []) (make 1)) { result = closure_ty 1 } ∷
-     record (closure 1 FnOnce [] (record { base = base.Root 0; ty = Def 1; captures = c ∷ [] } ∷ []) (move (dot (root 0) 1 0))) { result = ty_d } ∷ []) ∷ [])
+    record (closure 1 FnOnce [] (record { base = base.Root 0; ty = Def 1; captures = c ∷ [] } ∷ []) (move (dot (root 0) 1 0))) { result = ty_d } ∷ []) ∷ [])
 
 abbrev pub nested_whole : Core
 nested_whole = nested (capture [] Value false)
@@ -84,4 +82,4 @@ abbrev pub capture_order : Core
 capture_order = program (main (ty_d ∷ ty_d ∷ closure_ty 0 ∷ closure_ty 0 ∷ []) (scope (0 ∷ 1 ∷ 2 ∷ []) (
     init 0 (d 1) ∷ init 1 (d 2) ∷ init 2 (make 0) ∷ call_by 2 [] ∷ say (codes "end") ∷ roll-Expr (Expr-F.DropValue 3 (move (slot 2))) ∷ say (codes "after") ∷ []))
     (closure 0 Fn [] (variable 1 ty_d (capture [] Value false ∷ []) ∷ variable 0 ty_d (capture [] Value false ∷ []) ∷ [])
-        (seq (show (copy (dot (root 0) 0 0)) ∷ show (copy (dot (root 1) 0 0)) ∷ [])) ∷ []) ∷ [])
+    (seq (show (copy (dot (root 0) 0 0)) ∷ show (copy (dot (root 1) 0 0)) ∷ [])) ∷ []) ∷ [])

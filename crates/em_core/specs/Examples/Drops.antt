@@ -1,11 +1,11 @@
 -- Drops in order: fields, locals, parameters, assignments, boxes, `drop`.
-use Rattle.std.specs.Prelude.{[], ◌∷◌, codes}
+use Rattle.std.specs.Prelude.{[], ◌∷◌, codes, Some}
 use Rattle.em_core.specs.declared.ty.Ty.{Def, Unit, roll-Ty}
 use Rattle.em_core.specs.declared.ty.Ty.TheOpen.{Ty-F}
 use Rattle.em_core.specs.declared.expr.Expr.{roll-Expr}
 use Rattle.em_core.specs.declared.expr.Expr.TheOpen.{Expr-F}
 use Rattle.em_core.specs.declared.program.Core.{Core}
-use Rattle.em_core.specs.Examples.Short.{ty_d, slot, dot, deref, copy, move, seq, scope, init, assign, call, say, show, d, p, function, main, program}
+use Rattle.em_core.specs.Examples.Short.{ty_d, slot, dot, deref, copy, move, seq, scope, init, assign, call, say, show, d, p, function, main, program, program_with, def, build, unique}
 
 -- fn main() { let p = P { a: D(1), b: D(2) }; println!("end"); }
 abbrev pub fields : Core
@@ -42,3 +42,9 @@ dropped = program (main (ty_d ∷ []) (seq (roll-Expr (Expr-F.DropValue 0 (d 1))
 -- fn main() { let a = D(1); eat(a); println!("{}", a.0); }   rustc refuses it: the value is moved
 abbrev pub moved_value : Core
 moved_value = program (main (ty_d ∷ []) (scope (0 ∷ []) (init 0 (d 1) ∷ call 1 (move (slot 0) ∷ []) ∷ show (copy (dot (slot 0) 0 0)) ∷ [])) [] ∷ [])
+
+-- struct W { d: D } impl Drop for W { fn drop(&mut self) { println!("drop W"); } }   fn main() { let w = W { d: D(1) }; println!("end"); }
+abbrev pub owner_first : Core
+owner_first = program_with (def (codes "W") (ty_d ∷ []) (Some 3) ∷ []) (record { methods = []; impls = [] }) (
+    main (Def 2 ∷ []) (scope (0 ∷ []) (init 0 (build 2 (d 1 ∷ [])) ∷ say (codes "end") ∷ [])) [] ∷
+    function (unique (Def 2) ∷ []) Unit (unique (Def 2) ∷ []) (say (codes "drop W")) [] ∷ [])

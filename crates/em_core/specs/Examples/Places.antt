@@ -1,14 +1,14 @@
 -- Places: through references, boxes and slices, parts that are moved out, and addresses that lead nowhere.
-use Rattle.std.specs.Prelude.{ℕ, ℤ, pos, negsuc, Bool, true, false, List, [], ◌∷◌, ◌++◌, Option, Some, None, codes}
+use Rattle.std.specs.Prelude.{ℕ, pos, true, [], ◌∷◌, codes}
 use Rattle.em_core.specs.declared.ty.Ty.{Ty, Def, Unit, Int, roll-Ty}
 use Rattle.em_core.specs.declared.ty.Ty.TheOpen.{Ty-F}
-use Rattle.em_core.specs.declared.ty.IntKind.TheVariants.{I32, Usize}
+use Rattle.em_core.specs.declared.ty.IntKind.TheVariants.{Usize}
 use Rattle.em_core.specs.declared.expr.Expr.{Expr, roll-Expr}
 use Rattle.em_core.specs.declared.expr.Expr.TheOpen.{Expr-F}
 use Rattle.em_core.specs.declared.place.PlaceExpr.{PlaceExpr}
 use Rattle.em_core.specs.declared.program.Core.{Core}
 use Rattle.em_core.specs.Examples.Panics.{number}
-use Rattle.em_core.specs.Examples.Short.{int, ty_d, unique, shared, array, unit, num, slot, dot, deref, at, copy, move, borrow, seq, scope, init, assign, call, say, show, fail, d, p, function, main, program}
+use Rattle.em_core.specs.Examples.Short.{int, ty_d, unique, shared, array, num, slot, dot, deref, at, copy, move, borrow, seq, scope, init, assign, call, say, show, fail, d, p, function, main, program}
 
 abbrev pub index : ℕ → Expr
 index n = number Usize (pos n)
@@ -21,7 +21,7 @@ abbrev pub repeated : Core
 repeated = program (main (array int 3 ∷ Int Usize ∷ roll-Ty (Ty-F.RefIter (shared int)) ∷ shared int ∷ []) (scope (0 ∷ 1 ∷ []) (
     init 0 (roll-Expr (Expr-F.Repeat (num 0) 3)) ∷ init 1 (index 1) ∷ assign (at (slot 0) 1) (num 5) ∷
     scope (2 ∷ []) (init 2 (roll-Expr (Expr-F.ToRefIter (borrow (slot 0)))) ∷
-        roll-Expr (Expr-F.Loop (scope (3 ∷ []) (roll-Expr (Expr-F.Next (slot 2) 3) ∷ show (copy (deref (slot 3))) ∷ []))) ∷ []) ∷ [])) [] ∷ [])
+    roll-Expr (Expr-F.Loop (scope (3 ∷ []) (roll-Expr (Expr-F.Next (slot 2) 3) ∷ show (copy (deref (slot 3))) ∷ []))) ∷ []) ∷ [])) [] ∷ [])
 
 -- fn set(n: &mut i32) { *n = 7; } fn main() { let mut n = 1; set(&mut n); println!("{}", n); }
 abbrev pub written_through : Core

@@ -1,10 +1,10 @@
 -- What a typed Core is, by example.
-use Rattle.std.specs.Prelude.{◌≡◌, ℕ, false, List, [], ◌∷◌, codes}
-use Rattle.em_core.specs.declared.ty.Ty.{Ty, Unit, Def}
+use Rattle.std.specs.Prelude.{false, [], ◌∷◌, codes}
+use Rattle.em_core.specs.declared.ty.Ty.{Ty, Unit}
 use Rattle.em_core.specs.declared.expr.Expr.{Expr}
 use Rattle.em_core.specs.Values.{Fn}
 use Rattle.em_core.specs.Typed.{Gives}
-use Rattle.em_core.specs.Examples.Short.{ty_d, scope, init, say, p, slot, move, num}
+use Rattle.em_core.specs.Examples.Short.{scope, init, say, p, slot, move, num}
 use Rattle.em_core.specs.Examples.Drops.{fields}
 
 -- the expression gives a value of the type in the main of `fields`, whose one slot is of type P

@@ -106,10 +106,10 @@ constant_i32 n = constant.Int I32 (pos n)
 abbrev pub kinds : Core
 kinds = program (main [] (seq (show (call 3 (num 0 ∷ [])) ∷ show (call 3 (num 5 ∷ [])) ∷ show (call 3 (num 20 ∷ [])) ∷ show (call 3 (num 11 ∷ [])) ∷ [])) [] ∷
     function (int ∷ []) int (int ∷ []) (roll-Expr (Expr-F.Match (slot 0) (
-        one_test (test.Equal (constant_i32 0) ∷ []) (num 1) ∷
-        one_test (test.Within (constant_i32 1) (constant_i32 9) ∷ []) (num 2) ∷
-        one_test (test.Equal (constant_i32 10) ∷ test.Equal (constant_i32 20) ∷ []) (num 3) ∷
-        roll-Arm (record { patterns = record { parts = [] } ∷ []; body = num 4 }) ∷ []))) [] ∷ [])
+    one_test (test.Equal (constant_i32 0) ∷ []) (num 1) ∷
+    one_test (test.Within (constant_i32 1) (constant_i32 9) ∷ []) (num 2) ∷
+    one_test (test.Equal (constant_i32 10) ∷ test.Equal (constant_i32 20) ∷ []) (num 3) ∷
+    roll-Arm (record { patterns = record { parts = [] } ∷ []; body = num 4 }) ∷ []))) [] ∷ [])
 
 abbrev pub negated : Constant → Expr
 negated c = roll-Expr (Expr-F.Unary unary.Not (roll-Expr (Expr-F.Const c)))

@@ -1,13 +1,12 @@
-use Rattle.std.proofs.Common.{refl, sym, ◌∙◌, ◌≡◌, subst, ℕ, Bool, true, false, List, [], ◌∷◌, Option, Some, None, rules, codes}
+use Rattle.std.proofs.Common.{refl, ◌≡◌, subst, ℕ, Bool, false, [], ◌∷◌, Some, None, rules, codes}
 use Rattle.em_core.specs.declared.ty.Ty.{Ty, Unit, Def, out-Ty}
 use Rattle.em_core.specs.declared.expr.Expr.{Expr, out-Expr}
 use Rattle.em_core.specs.declared.expr.Expr.TheOpen.{Expr-F}
 use Rattle.em_core.specs.Values.{Fn}
 use Rattle.em_core.specs.Typed
 use Rattle.em_core.specs.declared.place.PlaceExpr.{PlaceExpr}
-use Rattle.em_core.specs.declared.expr.Arm.{Arm}
 use Rattle.em_core.specs.Examples.Short.{int, num, ty_d, d, p, init, say, slot, def}
-use Rattle.em_core.specs.Examples.Types.{GivesInMain, whole_main, no_slot}
+use Rattle.em_core.specs.Examples.Types.{GivesInMain, no_slot}
 use Rattle.em_core.specs.Examples.Drops.{fields}
 use Rattle.em_core.proofs.laws.types_fit.Goals as goal
 
