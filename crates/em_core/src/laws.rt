@@ -7,7 +7,7 @@ ghost use Rattle.em_core.specs.Values.{Printed, Dropped, Panicked, PanickedWith,
 ghost use Rattle.em_core.specs.Runs.{events};
 ghost use Rattle.em_core.specs.Examples.Short.{seen, invalid_after, prints, drops, int};
 ghost use Rattle.em_core.specs.Examples.Drops.{owner_first, fields, moved_into_call, locals, assignment, part_moved, boxed, dropped, moved_value};
-ghost use Rattle.em_core.specs.Examples.Panics.{unwinding, panic_in_drop, abort, panic_in_assignment, panic_value, operation, negation, least, indexed};
+ghost use Rattle.em_core.specs.Examples.Panics.{panic_in_part, unwinding, panic_in_drop, abort, panic_in_assignment, panic_value, operation, negation, least, indexed};
 ghost use Rattle.em_core.specs.Examples.Closures.{whole_variable, one_field, whole_value, copied_field, counter, two_ways, boxed_once, nested_whole, nested_field, capture_order};
 ghost use Rattle.em_core.specs.Examples.Values.{by_value, broken_off, by_reference, counted, returns, matched_by_move, matched_by_reference, failing_let, trait_object, formats, kinds, complements};
 ghost use Rattle.em_core.specs.Examples.Types.{GivesInMain, whole_main, no_slot};
@@ -33,6 +33,7 @@ pub fn panics_unwind()
     ensures panic_in_drop { events panic_in_drop 120 ≡ seen (prints (codes "end") ++ Dropped 2 ∷ Printed (codes "drop E 1") ∷ Panicked (codes "in drop") ∷ drops (codes "1")) }
     ensures abort { events abort 120 ≡ seen (Panicked (codes "stop") ∷ Dropped 2 ∷ Printed (codes "drop E 1") ∷ Aborted ∷ []) }
     ensures panic_in_assignment { events panic_in_assignment 120 ≡ seen (Dropped 2 ∷ Printed (codes "drop E 1") ∷ Panicked (codes "in drop") ∷ Dropped 2 ∷ Printed (codes "drop E 2") ∷ []) }
+    ensures panic_in_part { events panic_in_part 200 ≡ seen (Dropped 2 ∷ Printed (codes "drop E 2") ∷ Dropped 2 ∷ Printed (codes "drop E 3") ∷ Dropped 3 ∷ Printed (codes "drop V") ∷ Dropped 2 ∷ Printed (codes "drop E 1") ∷ Panicked (codes "in drop") ∷ drops (codes "2") ++ drops (codes "5")) }
     ensures panic_value { events panic_value 40 ≡ seen (PanickedWith int ∷ []) }
 {}
 

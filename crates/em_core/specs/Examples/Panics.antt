@@ -1,5 +1,5 @@
 -- Panics: the drops on the way out, a panic in a drop, and the panics of operators and indices.
-use Rattle.std.specs.Prelude.{ℕ, ℤ, pos, negsuc, [], ◌∷◌, Some, codes}
+use Rattle.std.specs.Prelude.{false, ℕ, ℤ, pos, negsuc, [], ◌∷◌, Some, codes}
 use Rattle.em_core.specs.declared.ty.Ty.{Def, Unit, Int}
 use Rattle.em_core.specs.declared.ty.IntKind.{IntKind}
 use Rattle.em_core.specs.declared.ty.IntKind.TheVariants.{I32, Usize}
@@ -9,8 +9,10 @@ use Rattle.em_core.specs.declared.operator.Constant.TheVariants as constant
 use Rattle.em_core.specs.declared.operator.UnaryOp.TheVariants as unary
 use Rattle.em_core.specs.declared.operator.BinaryOp.{BinaryOp}
 use Rattle.em_core.specs.declared.function.Function.{Function}
+use Rattle.em_core.specs.declared.ty.ClosureKind.TheVariants as ClosureKind
+use Rattle.em_core.specs.declared.mention.By.TheVariants.{Value}
 use Rattle.em_core.specs.declared.program.Core.{Core}
-use Rattle.em_core.specs.Examples.Short.{int, ty_d, unique, array, unit, num, slot, dot, deref, at, copy, move, seq, scope, init, assign, equal, choose, binary, build, call, say, say_and_show, show, fail, d, def, function, main, program, program_with}
+use Rattle.em_core.specs.Examples.Short.{int, ty_d, unique, array, unit, num, slot, dot, deref, at, copy, move, seq, scope, init, assign, equal, choose, binary, build, call, say, say_and_show, show, fail, d, def, function, main, program, program_with, closure_ty, closure, variable, capture}
 
 -- fn f() { let a = D(1); let b = D(2); panic!("stop"); } fn main() { let c = D(3); f(); println!("never"); }
 abbrev pub unwinding : Core
@@ -41,6 +43,16 @@ abort = with_e (main (ty_d ∷ Def 2 ∷ []) (scope (0 ∷ 1 ∷ []) (init 0 (d 
 -- fn main() { let mut a = E(1); a = E(2); println!("never"); }
 abbrev pub panic_in_assignment : Core
 panic_in_assignment = with_e (main (Def 2 ∷ Def 2 ∷ []) (scope (0 ∷ []) (init 0 (e 1) ∷ scope (1 ∷ []) (init 1 (e 2) ∷ assign (slot 0) (move (slot 1)) ∷ []) ∷ say (codes "never") ∷ [])) [])
+
+-- struct V { a: E, b: D } impl Drop for V { fn drop(&mut self) { println!("drop V"); } }   fn main() { let x = D(5); let w = V { a: E(1), b: D(2) }; let v = [E(2), E(3)]; let c = move || { let _ = &v; let _ = &w; }; drop(c); println!("never"); }
+abbrev pub panic_in_part : Core
+panic_in_part = program_with (def (codes "E") (int ∷ []) (Some 3) ∷ def (codes "V") (Def 2 ∷ ty_d ∷ []) (Some 4) ∷ []) (record { methods = []; impls = [] }) (
+    main (ty_d ∷ Def 3 ∷ array (Def 2) 2 ∷ closure_ty 0 ∷ closure_ty 0 ∷ []) (scope (0 ∷ 1 ∷ 2 ∷ 3 ∷ []) (
+        init 0 (d 5) ∷ init 1 (build 3 (e 1 ∷ d 2 ∷ [])) ∷ init 2 (roll-Expr (Expr-F.ArrayOf (Def 2) (e 2 ∷ e 3 ∷ []))) ∷
+        init 3 (roll-Expr (Expr-F.MakeClosure 0)) ∷ roll-Expr (Expr-F.DropValue 4 (move (slot 3))) ∷ say (codes "never") ∷ []))
+        (closure 0 ClosureKind.Fn [] (variable 2 (array (Def 2) 2) (capture [] Value false ∷ []) ∷ variable 1 (Def 3) (capture [] Value false ∷ []) ∷ []) unit ∷ []) ∷
+    drop_e ∷
+    function (unique (Def 3) ∷ []) Unit (unique (Def 3) ∷ []) (say (codes "drop V")) [] ∷ [])
 
 -- fn main() { std::panic::panic_any(7); }
 abbrev pub panic_value : Core
