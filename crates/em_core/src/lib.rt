@@ -3,6 +3,7 @@
 //! A Core is a program with its names resolved and its adjustments, coercions and drop scopes made explicit. `specs/` defines the machine that runs one.
 #![tactic(auto)]
 
+mod copying;
 mod definition;
 mod expr;
 mod function;
@@ -17,6 +18,7 @@ mod program;
 mod same;
 mod ty;
 
+pub use copying::is_copy_type;
 pub use definition::{TypeDef, Variant};
 pub use expr::{Arm, Expr, Piece};
 pub use function::{Capture, ClosureEntry, FieldStep, Function, Variable};

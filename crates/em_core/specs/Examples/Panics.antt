@@ -48,9 +48,9 @@ panic_in_assignment = with_e (main (Def 2 ∷ Def 2 ∷ []) (scope (0 ∷ []) (i
 abbrev pub panic_in_part : Core
 panic_in_part = program_with (def (codes "E") (int ∷ []) (Some 3) ∷ def (codes "V") (Def 2 ∷ ty_d ∷ []) (Some 4) ∷ []) (record { methods = []; impls = [] }) (
     main (ty_d ∷ Def 3 ∷ array (Def 2) 2 ∷ closure_ty 0 ∷ closure_ty 0 ∷ []) (scope (0 ∷ 1 ∷ 2 ∷ 3 ∷ []) (
-        init 0 (d 5) ∷ init 1 (build 3 (e 1 ∷ d 2 ∷ [])) ∷ init 2 (roll-Expr (Expr-F.ArrayOf (Def 2) (e 2 ∷ e 3 ∷ []))) ∷
-        init 3 (roll-Expr (Expr-F.MakeClosure 0)) ∷ roll-Expr (Expr-F.DropValue 4 (move (slot 3))) ∷ say (codes "never") ∷ []))
-        (closure 0 ClosureKind.Fn [] (variable 2 (array (Def 2) 2) (capture [] Value false ∷ []) ∷ variable 1 (Def 3) (capture [] Value false ∷ []) ∷ []) unit ∷ []) ∷
+    init 0 (d 5) ∷ init 1 (build 3 (e 1 ∷ d 2 ∷ [])) ∷ init 2 (roll-Expr (Expr-F.ArrayOf (Def 2) (e 2 ∷ e 3 ∷ []))) ∷
+    init 3 (roll-Expr (Expr-F.MakeClosure 0)) ∷ roll-Expr (Expr-F.DropValue 4 (move (slot 3))) ∷ say (codes "never") ∷ []))
+    (closure 0 ClosureKind.Fn [] (variable 2 (array (Def 2) 2) (capture [] Value false ∷ []) ∷ variable 1 (Def 3) (capture [] Value false ∷ []) ∷ []) unit ∷ []) ∷
     drop_e ∷
     function (unique (Def 3) ∷ []) Unit (unique (Def 3) ∷ []) (say (codes "drop V")) [] ∷ [])
 
