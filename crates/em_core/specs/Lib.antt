@@ -1,0 +1,15 @@
+pub mod Values
+pub mod Arithmetic
+pub mod Facts
+pub mod Drops
+pub mod States
+pub mod Places
+pub mod Captures
+pub mod Matching
+pub mod Calls
+pub mod Steps
+pub mod Runs
+pub mod Types
+pub mod Nodes
+pub mod Typed
+pub mod Examples
