@@ -1,15 +1,23 @@
 -- What the answers of the parts say of the whole.
-use Rattle.std.proofs.Common.{◌≡◌, ◌≢◌, ◌⊎◌, inl, inr, ℕ, get_or, length, List, Option, Some, None, IfSome, refl, subst, sym}
+use Rattle.std.proofs.Common.{◌≡◌, ◌≢◌, ◌⊎◌, ◌<◌, inl, inr, ℕ, suc, zero, get_or, length, List, [], ◌∷◌, Option, Some, None, IfSome, refl, subst, sym}
 use Rattle.std.proofs.lemmas.Option.{slice_get_read}
 use Rattle.em_disk.specs.Held.{Held}
 use Rattle.em_disk.specs.Changes.{PartDone}
 use Rattle.em_disk.specs.Causes.{Rose}
 use Rattle.em_disk.specs.declared.changes.Change.{Change}
-use Rattle.em_fix.specs.Lines.{Tells, Wrote, write_line}
-use Rattle.em_fix.specs.Migration.{Migrates, HasManifest, HasProgram}
+use Rattle.em_fix.specs.Lines.{Tells, TellsRefusal, Wrote, write_line}
+use Rattle.std.specs.Prelude.{slice_get}
+use Rattle.em_fix.specs.Words.{source_name, manifest_name}
+use Rattle.em_fix.specs.Migration.{AreOwn, Migrates, HasManifest, HasProgram}
 use Rattle.em_fix.specs.Answers.{Carries, Refuses, IsRefusal, Says, FaultRose}
 use Rattle.em_fix.specs.declared.status.Status.{Status}
 use Rattle.em_fix.specs.declared.status.Status.TheVariants.{Done, Usage, ReadFault, WriteFault, SinkFault, NoMemory, Unbuilt}
+
+none_some : (P : Type 0) (c : Change) → None ≡ Some c → P
+none_some P c h = cc
+
+some_is : (a b : Change) → Some a ≡ Some b → a ≡ b
+some_is a b h = cc
 
 says_one : (held : Held) (left : Option Held) (changes : List Change) (report : List ℕ) (s : Status) (old new : Option (List ℕ)) (before now : ℕ) → Migrates held changes report → Carries changes report (Some held) s left old new before now → Says held s left old new before now
 says_one held left changes report Done old new before now m h = (changes, report, m, h)
@@ -32,14 +40,21 @@ says_carried first mid left changes report s old new before now e m h = here fir
 pub carried_not_usage : (changes : List Change) (report : List ℕ) (held left : Option Held) (s : Status) (old new : Option (List ℕ)) (before now : ℕ) → Carries changes report held s left old new before now → s ≢ Usage
 carried_not_usage changes report held left s old new before now h e = subst (λ s. Carries changes report held s left old new before now) e h
 
-pub carried_tells : (changes : List Change) (report : List ℕ) (held left : Option Held) (s : Status) (old new : Option (List ℕ)) (before now : ℕ) → Carries changes report held s left old new before now → Tells s old new before now
-carried_tells changes report held left Done old new before now h = tt
-carried_tells changes report held left SinkFault old new before now h = tt
-carried_tells changes report held left (WriteFault which) old new before now h = tt
-carried_tells changes report held left Usage old new before now h = absurd h
-carried_tells changes report held left (ReadFault name) old new before now h = absurd h
-carried_tells changes report held left NoMemory old new before now h = absurd h
-carried_tells changes report held left Unbuilt old new before now h = absurd h
+own_named : (all : List Change) (which : ℕ) (change : Change) → AreOwn all → slice_get all which ≡ Some change → (change.name ≡ source_name) ⊎ (change.name ≡ manifest_name)
+own_named [] which change own e = none_some _ _ e
+own_named (c ∷ cs) zero change own e = subst (λ (x : Change). (x.name ≡ source_name) ⊎ (x.name ≡ manifest_name)) (some_is c change e) own.0
+own_named (c ∷ cs) (suc n) change own e = own_named cs n change own.1 e
+
+-- a change that can't be put is told by one of two names
+pub write_fault_told : (all changes : List Change) (which : ℕ) (change : Change) (old new : Option (List ℕ)) (before now : ℕ) → AreOwn all → changes ≡ all → which < length changes → change ≡ get_or changes which change → Wrote old (write_line (get_or changes which change).name) new before now → Tells (WriteFault which) old new before now
+write_fault_told all changes which change old new before now own e lt is w = here (own_named changes which change (subst AreOwn (sym e) own) (slice_get_read changes (length changes) which change refl lt is))
+  where
+    named : Wrote old (write_line change.name) new before now
+    named = subst (λ (x : Change). Wrote old (write_line x.name) new before now) (sym is) w
+
+    here : (change.name ≡ source_name) ⊎ (change.name ≡ manifest_name) → Tells (WriteFault which) old new before now
+    here (inl s) = inl (subst (λ n. Wrote old (write_line n) new before now) s named)
+    here (inr m) = inr (subst (λ n. Wrote old (write_line n) new before now) m named)
 
 -- a fault or an end: what is carried out with no fault is done
 pub carried_completes : (changes : List Change) (report : List ℕ) (held left : Option Held) (s : Status) (old new : Option (List ℕ)) (files_before files_now out_before out_now : ℕ) → Carries changes report held s left old new out_before out_now → FaultRose s files_before files_now out_before out_now → (Rose files_before files_now → ⊥) → (Rose out_before out_now → ⊥) → (s ≡ Done) ⊎ (s ≡ NoMemory)
@@ -107,3 +122,13 @@ pub write_fault_carried : (all changes : List Change) (report : List ℕ) (held 
 write_fault_carried all changes report held left which change old new before now e p is w =
     let named : Wrote old (write_line change.name) new before now = subst (λ (x : Change). Wrote old (write_line x.name) new before now) (sym is) w in
     subst (λ cs. Carries cs report held (WriteFault which) left old new before now) e (p, (change.name, (change, slice_get_read changes (length changes) which change refl p.0 is, refl), named))
+
+-- a refusal that is told
+pub refused_tells : (s : Status) (old new : Option (List ℕ)) (files_before files_now out_before out_now : ℕ) → IsRefusal s files_before files_now → TellsRefusal s old new out_before out_now → Tells s old new out_before out_now
+refused_tells (ReadFault name) old new fb fn ob on r h = h
+refused_tells NoMemory old new fb fn ob on r h = h
+refused_tells Unbuilt old new fb fn ob on r h = h
+refused_tells Done old new fb fn ob on r h = tt
+refused_tells Usage old new fb fn ob on r h = h
+refused_tells (WriteFault which) old new fb fn ob on r h = absurd r
+refused_tells SinkFault old new fb fn ob on r h = tt

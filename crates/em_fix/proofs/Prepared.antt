@@ -1,5 +1,6 @@
 -- What the reads of a package say of its migration, where the held files may be told or not.
-use Rattle.std.proofs.Common.{◌≡◌, inl, inr, ℕ, List, [], ◌∷◌, ◌++◌, Option, Some, None, IfSome, subst, sym, ◌∙◌, ap}
+use Rattle.std.proofs.Common.{◌≡◌, inl, inr, refl, Bool, true, false, cond, ℕ, List, [], ◌∷◌, ◌++◌, Option, Some, None, IfSome, subst, sym, ◌∙◌, ap}
+use Rattle.std.specs.Str.{bytes_eq}
 use Rattle.std.specs.Option.{unwrap_or}
 use Rattle.em_base.specs.declared.edit.Suggestion.{Suggestion}
 use Rattle.em_disk.specs.Held.{Held}
@@ -9,7 +10,7 @@ use Rattle.em_base.specs.declared.edition.Edition.TheVariants.{E2015}
 use Rattle.em_fix.specs.Manifest.{IsManifest, IsNoManifest, MovesManifest}
 use Rattle.em_fix.specs.Source.{IsProgram, IsNoProgram, MovesSource}
 use Rattle.em_fix.specs.Report.{report_of}
-use Rattle.em_fix.specs.Migration.{HoldsShort, HasManifest, IsUnbuilt, Migrates, change, change_if}
+use Rattle.em_fix.specs.Migration.{HoldsShort, HasManifest, IsUnbuilt, Migrates, AreOwn, change, change_if}
 use Rattle.em_fix.specs.Answers.{FetchRefuses, Refuses}
 use Rattle.em_fix.specs.declared.status.Status.{Status}
 use Rattle.em_fix.specs.declared.status.Status.TheVariants.{Done, Usage, ReadFault, WriteFault, SinkFault, NoMemory, Unbuilt}
@@ -78,3 +79,11 @@ all_moved old mid manifest new_manifest source old_source new_source found chang
       changed = ch ∙ ap (λ xs. change_if source_name xs new_source ++ (change manifest_name manifest new_manifest ∷ [])) es;
       reported = rp;
     }
+
+-- the changes that are made are of the source and of the manifest
+pub all_own : (source new_source manifest new_manifest : List ℕ) (changes : List Change) → changes ≡ change_if source_name source new_source ++ (change manifest_name manifest new_manifest ∷ []) → AreOwn changes
+all_own source new_source manifest new_manifest changes e = subst AreOwn (sym e) (here (bytes_eq source new_source))
+  where
+    here : (c : Bool) → AreOwn (cond c [] (change source_name source new_source ∷ []) ++ (change manifest_name manifest new_manifest ∷ []))
+    here true = (inr refl, tt)
+    here false = (inl refl, (inr refl, tt))

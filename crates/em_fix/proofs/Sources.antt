@@ -9,7 +9,7 @@ use Rattle.em_first.specs.Events.{Events, first_events}
 use Rattle.em_first.specs.Form.{Statement, FirstCore, FirstForm}
 use Rattle.em_first.specs.Keyword.{findings, finding, is_found}
 use Rattle.em_first.specs.Laws.{OneCore, KeepsCore, NothingLeft, EditedLexes}
-use Rattle.em_lex.specs.Laws.{OneLexing, TokensInText, LieInOrder, LieInText}
+use Rattle.em_lex.specs.Laws.{OneLexing, TokensInText, LieInOrder}
 use Rattle.em_lex.specs.Lexing.{Lexes}
 use Rattle.em_lex.specs.Marking.{moved}
 use Rattle.em_fix.specs.Source.{IsProgram, IsNoProgram, Prints, EditsMove}

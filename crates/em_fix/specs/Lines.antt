@@ -3,6 +3,7 @@ use Rattle.std.specs.Prelude.{◌≡◌, ◌⊎◌, ℕ, List, [], ◌∷◌, �
 use Rattle.std.specs.Option.{option_map}
 use Rattle.em_disk.specs.Causes.{Rose}
 use Rattle.em_disk.specs.Held.{AppendedPart}
+use Rattle.em_fix.specs.Words.{manifest_name, source_name}
 use Rattle.em_fix.specs.declared.status.Status.{Status}
 use Rattle.em_fix.specs.declared.status.Status.TheVariants.{Done, Usage, ReadFault, WriteFault, SinkFault, NoMemory, Unbuilt}
 
@@ -18,12 +19,22 @@ write_line name = line (codes "error[4]: cannot write " ++ name)
 abbrev pub Wrote : Option (List ℕ) → List ℕ → Option (List ℕ) → ℕ → ℕ → Type 0
 Wrote old bytes new before now = (new ≡ option_map (λ written. written ++ bytes) old) ⊎ (AppendedPart old bytes new × Rose before now)
 
--- the line of each refusal; what the other answers write depends on the files
+-- the line of a refusal
+abbrev pub TellsRefusal : Status → Option (List ℕ) → Option (List ℕ) → ℕ → ℕ → Type 0
+TellsRefusal Usage old new before now = Wrote old (line (codes "error[2]: usage")) new before now
+TellsRefusal (ReadFault name) old new before now = Wrote old (line (codes "error[3]: cannot read " ++ name)) new before now
+TellsRefusal NoMemory old new before now = Wrote old (line (codes "error[6]: out of memory")) new before now
+TellsRefusal Unbuilt old new before now = Wrote old (line (codes "error[15]: unbuilt")) new before now
+TellsRefusal Done old new before now = Unit {0}
+TellsRefusal SinkFault old new before now = Unit {0}
+TellsRefusal (WriteFault which) old new before now = Unit {0}
+
+-- the line of an answer whatever the files are; the report of a migration depends on them
 abbrev pub Tells : Status → Option (List ℕ) → Option (List ℕ) → ℕ → ℕ → Type 0
-Tells Usage old new before now = Wrote old (line (codes "error[2]: usage")) new before now
-Tells (ReadFault name) old new before now = Wrote old (line (codes "error[3]: cannot read " ++ name)) new before now
-Tells NoMemory old new before now = Wrote old (line (codes "error[6]: out of memory")) new before now
-Tells Unbuilt old new before now = Wrote old (line (codes "error[15]: unbuilt")) new before now
+Tells Usage old new before now = TellsRefusal Usage old new before now
+Tells (ReadFault name) old new before now = TellsRefusal (ReadFault name) old new before now
+Tells NoMemory old new before now = TellsRefusal NoMemory old new before now
+Tells Unbuilt old new before now = TellsRefusal Unbuilt old new before now
+Tells (WriteFault which) old new before now = (Wrote old (write_line source_name) new before now) ⊎ (Wrote old (write_line manifest_name) new before now)
 Tells Done old new before now = Unit {0}
 Tells SinkFault old new before now = Unit {0}
-Tells (WriteFault which) old new before now = Unit {0}

@@ -45,6 +45,11 @@ IsUnbuilt held = (HasManifest held → ⊥) ⊎ (HasManifest held × (HasProgram
 abbrev pub change : List ℕ → List ℕ → List ℕ → Change
 change name old new = record { name = name; old = old; new = new }
 
+-- each change is one of the source or of the manifest
+abbrev pub AreOwn : List Change → Type 0
+AreOwn [] = Unit {0}
+AreOwn (c ∷ cs) = ((c.name ≡ source_name) ⊎ (c.name ≡ manifest_name)) × AreOwn cs
+
 -- a change of a file, where its bytes differ
 abbrev pub change_if : List ℕ → List ℕ → List ℕ → List Change
 change_if name old new = if bytes_eq old new then [] else (change name old new ∷ [])

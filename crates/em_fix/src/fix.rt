@@ -1,7 +1,7 @@
 ghost use Rattle.std.specs.Prelude.{◌≡◌, ◌≢◌, ◌≤◌, ◌↔◌, ◌⊎◌, ◌<◌, ◌^◌, length, IfSome};
 ghost use Rattle.em_disk.specs.Causes.{Rose};
 ghost use Rattle.em_fix.specs.Words.{the_words};
-ghost use Rattle.em_fix.specs.Migration.{HasManifest, HasProgram};
+ghost use Rattle.em_fix.specs.Migration.{AreOwn, HasManifest, HasProgram};
 ghost use Rattle.em_fix.specs.Lines.{Tells};
 ghost use Rattle.em_fix.specs.Answers.{Says, Carries, FaultRose};
 
@@ -15,9 +15,12 @@ use std::alloc::Global;
 
 /// Puts the changes, and then writes the report. Takes no memory.
 fn carry_out<F: Files, S: Sink>(migration: &Migration, files: &mut F, out: &mut S) -> Status
-    requires { length migration.now.changes < 2 ^ 32 }
+    requires few { length migration.now.changes < 2 ^ 32 }
+    requires own { AreOwn migration.now.changes }
     ensures carried { Carries migration.now.changes migration.now.report (F.held files.old) result (F.held files.new)
         (S.written out.old) (S.written out.new) (S.faults out.old) (S.faults out.new) }
+    ensures tells { Tells result (S.written out.old) (S.written out.new)
+        (S.faults out.old) (S.faults out.new) }
     ensures cause { FaultRose result (F.faults files.old) (F.faults files.new)
         (S.faults out.old) (S.faults out.new) }
 {
@@ -36,7 +39,7 @@ fn carry_out<F: Files, S: Sink>(migration: &Migration, files: &mut F, out: &mut 
 
 /// Does all that the program does: migrates the package in the current folder by one edition, and writes a report or one line that
 /// says why not. `words` are those after the program's name.
-#[tactic(auto, using(crate::proofs::Fixed::says_carried, crate::proofs::Fixed::carried_not_usage, crate::proofs::Fixed::carried_tells, crate::proofs::Fixed::carried_completes, crate::proofs::Fixed::refused_says, crate::proofs::Fixed::refused_cause, crate::proofs::Fixed::refused_completes, crate::proofs::Fixed::refusal_not_usage, crate::proofs::Fixed::told, crate::proofs::Fixed::unchanged_says_usage))]
+#[tactic(auto, using(crate::proofs::Fixed::says_carried, crate::proofs::Fixed::carried_not_usage, crate::proofs::Fixed::carried_completes, crate::proofs::Fixed::refused_says, crate::proofs::Fixed::refused_tells, crate::proofs::Fixed::refused_cause, crate::proofs::Fixed::refused_completes, crate::proofs::Fixed::refusal_not_usage, crate::proofs::Fixed::told, crate::proofs::Fixed::unchanged_says_usage))]
 pub fn fix<F: Files, S: Sink>(
     alloc: Global,
     words: &List<Text>,

@@ -1,5 +1,5 @@
 ghost use Rattle.std.specs.Prelude.{◌≡◌, ◌≤◌, ◌++◌, ◌∷◌, [], codes};
-ghost use Rattle.em_fix.specs.Lines.{line, write_line, Wrote, Tells};
+ghost use Rattle.em_fix.specs.Lines.{line, write_line, Wrote, TellsRefusal};
 
 use crate::status::Status;
 use em_base::Text;
@@ -36,7 +36,7 @@ pub fn tell_write_fault<S: Sink>(out: &mut S, name: &Text)
 /// Writes the line of a refusal.
 pub fn tell<S: Sink>(out: &mut S, status: &Status)
     ensures later { S.faults out.old ≤ S.faults out.new }
-    ensures bytes { Tells status.now (S.written out.old) (S.written out.new)
+    ensures bytes { TellsRefusal status.now (S.written out.old) (S.written out.new)
         (S.faults out.old) (S.faults out.new) }
 {
     match status {

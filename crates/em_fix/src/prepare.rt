@@ -1,5 +1,5 @@
 ghost use Rattle.std.specs.Prelude.{◌≡◌, ◌≤◌, ◌<◌, ◌^◌, ◌++◌, ◌∷◌, [], length, OnOk, IfOk, IfErr, IfSome};
-ghost use Rattle.em_fix.specs.Migration.{HoldsShort, Migrates, change, change_if};
+ghost use Rattle.em_fix.specs.Migration.{HoldsShort, Migrates, AreOwn, change, change_if};
 ghost use Rattle.em_fix.specs.Words.{manifest_name, source_name};
 ghost use Rattle.em_fix.specs.Answers.{FetchRefuses, IsRefusal, Refuses};
 
@@ -85,11 +85,12 @@ fn changes_of(
 }
 
 /// Reads the package, and makes all that is to be put and the report.
-#[tactic(auto, using(crate::proofs::Prepared::manifest_refuses, crate::proofs::Prepared::manifest_unbuilt, crate::proofs::Prepared::source_refuses, crate::proofs::Prepared::source_unbuilt, crate::proofs::Prepared::all_moved))]
+#[tactic(auto, using(crate::proofs::Prepared::manifest_refuses, crate::proofs::Prepared::manifest_unbuilt, crate::proofs::Prepared::source_refuses, crate::proofs::Prepared::source_unbuilt, crate::proofs::Prepared::all_moved, crate::proofs::Prepared::all_own))]
 pub fn prepare<F: Files>(alloc: Global, files: &mut F) -> Result<Migration, Status>
     ensures kept { F.held files.new ≡ F.held files.old }
     ensures later { F.faults files.old ≤ F.faults files.new }
     ensures few { IfOk result (λ m. length m.changes < 2 ^ 32) }
+    ensures own { IfOk result (λ m. AreOwn m.changes) }
     ensures ok { IfOk result (λ m. IfSome (F.held files.old) (λ held. Migrates held m.changes m.report)) }
     ensures cause { IfErr result (λ status. IsRefusal status (F.faults files.old) (F.faults files.new)) }
     ensures err { IfErr result (λ status. IfSome (F.held files.old) (λ held. Refuses held status)) }

@@ -183,6 +183,15 @@ fn names_each_fault(rt: HostRuntime) -> Result<(), Fail> {
             ..kept(MANIFEST, KEYWORD, 4, "error[4]: cannot write src/main.rs\n")
         },
         Row {
+            files_fail: &[2],
+            ..kept(
+                MANIFEST,
+                "fn main() {}",
+                4,
+                "error[4]: cannot write Cargo.toml\n",
+            )
+        },
+        Row {
             files_fail: &[3],
             new_source: NEW_KEYWORD,
             ..kept(MANIFEST, KEYWORD, 4, "error[4]: cannot write Cargo.toml\n")
