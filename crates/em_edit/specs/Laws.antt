@@ -29,12 +29,13 @@ FirstPartFirst =
 abbrev pub picked : List Suggestion → List ℕ → List Suggestion
 picked findings indices = filter_map (λ i. slice_get findings i) indices
 
--- the findings that are taken can be applied, if their parts lie in the texts on boundaries
+-- the findings that are taken can be applied together, if each can be applied alone: its parts are ranges of the sources on
+-- character boundaries, and no two of them meet
 abbrev pub TakenFit : Type 0
 TakenFit =
     (sources : List (List ℕ)) (findings : List Suggestion) (taken : List ℕ)
     → IsSelection findings taken
-    → All (LiesIn sources) (all_parts (picked findings taken))
+    → All (λ s. AreApplicable sources (s ∷ [])) (picked findings taken)
     → AreApplicable sources (picked findings taken)
 
 -- no suggestion moves a range
