@@ -1,6 +1,6 @@
 -- Parts that meet and parts that are clear of one another.
 use Rattle.std.proofs.Common.{inl, inr, ◌≡◌, ◌≢◌, ◌⊎◌, ℕ, ◌+◌, ◌<◌, ◌≤◌, max, List, [], ◌∷◌, ◌++◌, length, get_or, take, drop, refl, ap, sym, ◌∙◌, arith}
-use Rattle.std.specs.Prelude.{Any, slice_get}
+use Rattle.std.specs.Prelude.{Any}
 use Rattle.std.proofs.lemmas.Bool.{cases_lt, cases_eq}
 use Rattle.std.proofs.lemmas.List.{get_or_append_left, get_or-append-add, length_push, take_more, take_all, append_assoc, length-append, length-take, take-append-drop}
 use Rattle.std.proofs.lemmas.Option.{slice_get_read}

@@ -4,8 +4,8 @@ use Rattle.std.specs.List.{filter_map}
 use Rattle.em_base.specs.declared.edit.Part.{Part}
 use Rattle.em_base.specs.declared.edit.Suggestion.{Suggestion}
 use Rattle.em_base.specs.declared.place.Span.{Span}
-use Rattle.em_edit.specs.Edited.{all_parts, parts_of, edited, edited_on}
-use Rattle.em_edit.specs.Fit.{LiesIn, AreApplicable}
+use Rattle.em_edit.specs.Edited.{parts_of, edited, edited_on}
+use Rattle.em_edit.specs.Fit.{AreApplicable}
 use Rattle.em_edit.specs.Moved.{moved_span}
 use Rattle.em_edit.specs.Selected.{IsSelection}
 

@@ -236,9 +236,7 @@ fn some_range(state: u32) -> Range {
 }
 
 /// Findings of one to four parts, whose places come from a seed.
-fn some_findings(alloc: Global, seed: u32) -> Result<List<Suggestion>, NoMemory>
-    ensures { IfOk result (λ list. length list ≡ 10) }
-{
+fn some_findings(alloc: Global, seed: u32) -> Result<List<Suggestion>, NoMemory> {
     let mut list = List::new(alloc);
     let mut state = next_state(seed);
     for _ in 0..10 {
@@ -260,6 +258,7 @@ fn some_findings(alloc: Global, seed: u32) -> Result<List<Suggestion>, NoMemory>
 fn a_search_through_all_findings_takes_the_same(rt: HostRuntime) {
     for seed in 0..60 {
         let all = some_findings(rt.alloc(), seed).expect(&rt, "memory");
+        assert!(rt; all.len() == 10);
         let slow = slow_selection(rt.alloc(), all.as_slice()).expect(&rt, "memory");
         let taken = select(rt.alloc(), &all).expect(&rt, "memory");
         assert!(rt; taken.as_slice() == slow.as_slice());

@@ -1,12 +1,10 @@
-use Rattle.std.proofs.Common.{List, map, subst, sym}
-use Rattle.std.specs.Prelude.{MatchBool, All, AllPairs}
+use Rattle.std.proofs.Common.{map}
+use Rattle.std.specs.Prelude.{All}
 use Rattle.std.proofs.lemmas.Bool.{MatchBool-at_true, MatchBool-at_false}
 use Rattle.std.specs.List.Sorted.{IsPermutation}
 use Rattle.std.proofs.lemmas.List.Sorted.{All-permutation}
-use Rattle.em_base.specs.declared.edit.Part.{Part}
 use Rattle.em_edit.specs.Ends.{AreClear}
 use Rattle.em_edit.specs.Meet.{OneMeets}
-use Rattle.em_edit.specs.Order.{StartsNoLater}
 use Rattle.em_edit.proofs.Reach.{holds_permuted, none_meets}
 use Rattle.em_edit.proofs.ends.admit.Goals as goal
 
