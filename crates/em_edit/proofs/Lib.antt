@@ -7,6 +7,7 @@ pub mod MovedLaws
 pub mod Pairs
 pub mod PlaceOrder
 pub mod Places
+pub mod Reach
 pub mod Refusals
 pub mod Sorting
 pub mod Sums

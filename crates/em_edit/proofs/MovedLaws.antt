@@ -2,75 +2,58 @@
 use Rattle.std.proofs.Common.{inl, inr, ◌≡◌, ◌⊎◌, ℕ, zero, suc, ◌+◌, ◌-◌, ◌<◌, ◌≤◌, Bool, true, false, cond, ◌&&◌, ◌||◌, eqb, ltb, leb, List, [], ◌∷◌, ◌++◌, length, get_or, take, drop, refl, ap, sym, ◌∙◌, subst, arith, append-nil, append_assoc, add-one, length-append}
 use Rattle.std.specs.Prelude.{All, AllPairs}
 use Rattle.std.proofs.lemmas.Bool.{cases_Bool, cases_eq, cases_lt, eq-eqb, ne_eqb, and_left, and_right, le-ltb, lt-leb}
-use Rattle.std.proofs.lemmas.List.{drop_more, drop_at, take_at, length-take-le, length-drop}
-use Rattle.std.proofs.lemmas.List.Elements.{All-head, All-tail, All-filter}
-use Rattle.std.proofs.lemmas.Option.{slice_get-get_or, slice_get_within}
+use Rattle.std.proofs.lemmas.List.{get_or_default, drop_more, drop_at, take_at, length-take-le, length-drop}
+use Rattle.std.proofs.lemmas.List.Elements.{All-nil, All-head, All-tail, All-append, All-filter}
 use Rattle.em_base.specs.declared.edit.Part.{Part}
 use Rattle.em_base.specs.declared.edit.Suggestion.{Suggestion}
 use Rattle.em_edit.specs.Edited.{put_in, is_replaced, edited_on, all_parts, parts_of}
-use Rattle.em_edit.specs.Ends.{AreClear, far_of}
-use Rattle.em_edit.specs.Fit.{LiesIn, Apart}
+use Rattle.em_edit.specs.Fit.{LiesIn, Apart, AreApplicable}
 use Rattle.em_edit.specs.Laws.{picked, TakenFit, NoneMoves, OrderStays, IsOutside, OutsideStays}
-use Rattle.em_edit.specs.Meet.{Meet, TwoMeet}
+use Rattle.em_edit.specs.Meet.{OneMeets}
 use Rattle.em_edit.specs.Moved.{kept_before, is_put_before, put_before, moved_offset, moved_span}
 use Rattle.em_edit.specs.Selected.{Takes}
-use Rattle.em_edit.proofs.AnyOrder.{in_file}
-use Rattle.em_edit.proofs.Clearance.{meet_across}
+use Rattle.em_edit.proofs.AnyOrder.{in_file, turned}
+use Rattle.em_edit.proofs.Clearance.{meet_or_clear}
+use Rattle.em_edit.proofs.Pairs.{AllPairs-joined}
 use Rattle.em_edit.proofs.Places.{put_cons, put_in_cons, put_least, put_step, put_zero, put_passing}
 use Rattle.em_edit.proofs.Refusals.{apart_from_clear}
 use Rattle.em_edit.proofs.Walking.{same_span}
 
 -- ---- what is taken can be applied
 
--- two parts meet or are clear of one another
-meet_or_clear : (p q : Part) → Meet p q ⊎ AreClear p q
-meet_or_clear p q = elim (cases_eq p.span.file q.span.file) [
-  | inr files ↦ inr (inl files)
-  | inl file ↦ elim (cases_eq p.span.start q.span.start) [
-    | inl start ↦ inl (record { file = file; meeting = inl start })
-    | inr ne ↦ elim (cases_lt q.span.start (far_of p)) [
-      | inr le ↦ inr (inr (ne, inl le))
-      | inl over ↦ elim (cases_lt p.span.start (far_of q)) [
-        | inr le ↦ inr (inr (ne, inr le))
-        | inl under ↦ inl (meet_across p q file over under)
-      ]
-    ]
-  ]
-]
-
-apart_unless_meet : (parts : List Part) → (TwoMeet parts → ⊥) → AllPairs Apart parts
-apart_unless_meet parts free i j d lt l =
-    let p = get_or parts i d in
-    let q = get_or parts j d in
+-- parts of a finding that meet none before them are apart from them
+apart_across : (before parts : List Part) → (OneMeets parts before → ⊥) → All (λ p. All (Apart p) before) parts
+apart_across before parts free k d lt j e l =
+    let p = get_or parts k d in
+    let q = get_or before j e in
     elim (meet_or_clear p q) [
       | inr clear ↦ apart_from_clear p q clear
-      | inl meet ↦ absurd (free (record {
-        one = i;
-        other = j;
-        order = lt;
-        p = p;
-        q = q;
-        first = slice_get-get_or parts i d (omega arith);
-        second = slice_get-get_or parts j d l;
-        meet = meet;
-      }))
+      | inl meet ↦ absurd (free (k, p, lt, get_or_default parts k p d lt, (j, q, l, get_or_default before j q e l, meet)))
     ]
 
-free_taken : (findings : List Suggestion) (before : List Part) (order taken : List ℕ) → Takes findings before order taken → (TwoMeet before → ⊥) → TwoMeet (before ++ all_parts (picked findings taken)) → ⊥
-free_taken findings before [] taken t free two = free (subst (λ (ps : List Part). TwoMeet ps) (append-nil before) (subst (λ (is : List ℕ). TwoMeet (before ++ all_parts (picked findings is))) t two))
-free_taken findings before (i ∷ is) taken (s, here, inr (met, rest)) free two = free_taken findings before is taken rest free two
-free_taken findings before (i ∷ is) taken (s, here, inl (none, (others, same, rest))) free two =
-    let parts : all_parts (picked findings taken) ≡ s.parts ++ all_parts (picked findings others) = ap (λ (xs : List ℕ). all_parts (picked findings xs)) same ∙ rw here refl in
-    free_taken findings (before ++ s.parts) is others rest none (subst (λ (ps : List Part). TwoMeet ps) (sym (append_assoc before s.parts (all_parts (picked findings others)))) (subst (λ (ps : List Part). TwoMeet (before ++ ps)) parts two))
+all_apart : (sources : List (List ℕ)) (findings : List Suggestion) (before : List Part) (order taken : List ℕ) → Takes findings before order taken → All (λ s. AreApplicable sources (s ∷ [])) (picked findings taken) → AllPairs Apart before → AllPairs Apart (before ++ all_parts (picked findings taken))
+all_apart sources findings before [] taken t alone apart = rw (t, append-nil before) apart
+all_apart sources findings before (i ∷ is) taken (s, here, inr (met, rest)) alone apart = all_apart sources findings before is taken rest alone apart
+all_apart sources findings before (i ∷ is) taken (s, here, inl (free, (others, same, rest))) alone apart =
+    let split : picked findings taken ≡ s ∷ picked findings others = ap (λ (xs : List ℕ). picked findings xs) same ∙ rw here refl in
+    let alone' = subst (λ ss. All (λ s. AreApplicable sources (s ∷ [])) ss) split alone in
+    let own : AllPairs Apart s.parts = subst (λ (ps : List Part). AllPairs Apart ps) (append-nil s.parts) (All-head (λ s. AreApplicable sources (s ∷ [])) s (picked findings others) alone').apart in
+    let joined = AllPairs-joined Apart turned before s.parts apart own (apart_across before s.parts free) in
+    let later = all_apart sources findings (before ++ s.parts) is others rest (All-tail (λ s. AreApplicable sources (s ∷ [])) s (picked findings others) alone') joined in
+    rw split (subst (λ (ps : List Part). AllPairs Apart ps) (append_assoc before s.parts (all_parts (picked findings others))) later)
+
+all_lie : (sources : List (List ℕ)) (taken : List Suggestion) → All (λ s. AreApplicable sources (s ∷ [])) taken → All (LiesIn sources) (all_parts taken)
+all_lie sources [] alone = All-nil (LiesIn sources)
+all_lie sources (s ∷ ss) alone =
+    All-append (LiesIn sources) s.parts (all_parts ss)
+    (subst (λ (ps : List Part). All (LiesIn sources) ps) (append-nil s.parts) (All-head (λ s. AreApplicable sources (s ∷ [])) s ss alone).lie)
+    (all_lie sources ss (All-tail (λ s. AreApplicable sources (s ∷ [])) s ss alone))
 
 pub taken_fit : TakenFit
-taken_fit sources findings taken selection lie = record {
-  lie = lie;
-  apart = apart_unless_meet (all_parts (picked findings taken)) (free_taken findings [] selection.order taken selection.takes (λ two. absurd (no_part_meets two)));
+taken_fit sources findings taken selection alone = record {
+  lie = all_lie sources (picked findings taken) alone;
+  apart = all_apart sources findings [] selection.order taken selection.takes alone (λ i j d lt l. absurd (omega arith));
 }
-  where
-    no_part_meets : TwoMeet [] → ⊥
-    no_part_meets two = absurd (omega (arith, slice_get_within [] two.one two.p two.first))
 
 -- ---- moved places
 

@@ -1,9 +1,11 @@
 -- What holds of each two elements of a list, also in another order.
-use Rattle.std.proofs.Common.{inl, inr, ◌≡◌, ◌≢◌, ◌⊎◌, ℕ, suc, ◌<◌, List, [], ◌∷◌, map, length, get_or, refl, ap, ◌∙◌, arith}
+use Rattle.std.proofs.Common.{inl, inr, ◌≡◌, ◌≢◌, ◌⊎◌, ℕ, suc, ◌<◌, List, [], ◌∷◌, ◌++◌, map, length, get_or, refl, ap, ◌∙◌, arith}
 use Rattle.std.specs.Prelude.{All, AllPairs, swap}
 use Rattle.std.specs.List.Sorted.{IsPermutation}
 use Rattle.std.proofs.lemmas.Bool.{cases_eq, cases_order}
 use Rattle.std.proofs.lemmas.List.{get_or-map, length-map}
+use Rattle.std.proofs.lemmas.List.Elements.{All-append, All-head, All-tail}
+use Rattle.std.proofs.lemmas.List.Kept.{AllPairs-cons}
 use Rattle.std.proofs.lemmas.List.Edits.{Swapped, swapped_from_swap, length-swap}
 use Rattle.std.proofs.lemmas.List.Sorted.{IsPermutation-keeps}
 
@@ -64,3 +66,11 @@ AllPairs-map R f (x ∷ xs) h = λ i j d lt l.
     let j_in : j < length (x ∷ xs) = omega (arith, length-map (x ∷ xs) f) in
     let i_in : i < length (x ∷ xs) = omega arith in
     rw (get_or-map f (x ∷ xs) i x d i_in, get_or-map f (x ∷ xs) j x d j_in) (h i j x lt j_in)
+
+-- each two of two lists
+pub AllPairs-joined : {X : Type 0} (R : X → X → Type 0) → ((x y : X) → R x y → R y x) → (xs ys : List X) → AllPairs R xs → AllPairs R ys → All (λ y. All (R y) xs) ys → AllPairs R (xs ++ ys)
+AllPairs-joined R turn [] ys ones others across = others
+AllPairs-joined R turn (x ∷ xs) ys ones others across =
+    AllPairs-cons R x (xs ++ ys)
+    (All-append (R x) xs ys (AllPairs-head R x xs ones) (λ k d lt. turn (get_or ys k d) x (All-head (R (get_or ys k d)) x xs (across k d lt))))
+    (AllPairs-joined R turn xs ys (AllPairs-tail R x xs ones) others (λ k d lt. All-tail (R (get_or ys k d)) x xs (across k d lt)))

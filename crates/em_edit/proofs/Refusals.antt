@@ -1,5 +1,5 @@
 -- From the faults of one suggestion to why suggestions are refused.
-use Rattle.std.proofs.Common.{inl, inr, ◌≡◌, ◌≢◌, ◌⊎◌, ℕ, ◌+◌, ◌<◌, ◌≤◌, List, [], ◌∷◌, ◌++◌, length, get_or, take, drop, refl, ap, sym, ◌∙◌, subst, arith, append-nil, max, zero, suc, Some}
+use Rattle.std.proofs.Common.{inl, inr, ◌≡◌, ◌≢◌, ◌⊎◌, ℕ, ◌+◌, ◌<◌, ◌≤◌, List, [], ◌∷◌, ◌++◌, length, get_or, take, drop, refl, ap, sym, ◌∙◌, subst, arith, append-nil, zero, suc, Some}
 use Rattle.std.specs.Prelude.{All, AllPairs, Any, slice_get}
 use Rattle.std.proofs.lemmas.List.{take_more, take-append-drop, get_or_append_left, get_or-append-add, length-append}
 use Rattle.std.proofs.lemmas.List.Concat.{flat_map-append}
@@ -11,20 +11,23 @@ use Rattle.em_edit.specs.declared.bad_edit.BadEdit.{BadEdit}
 use Rattle.em_edit.specs.declared.bad_edit.BadEdit.TheVariants.{NoMemory, OutOfText, NotBoundary, Overlap}
 use Rattle.em_edit.specs.Check.{IsFault}
 use Rattle.em_edit.specs.Edited.{all_parts}
-use Rattle.em_edit.specs.Ends.{Ends, AreClear, Holds}
+use Rattle.em_edit.specs.Ends.{Ends, last_of, AreClear, HoldsClear}
 use Rattle.em_edit.specs.Faults.{StandsAt, IsInText, IsOnBoundaries, IsRefused}
 use Rattle.em_edit.specs.Fit.{LiesIn, Apart, AreApplicable}
 use Rattle.em_edit.specs.Meet.{HaveCommonByte, IsPutInside, Meet, TwoMeet}
 
 pub apart_from_clear : (p q : Part) → AreClear p q → Apart p q
 apart_from_clear p q (inl files) = inl files
-apart_from_clear p q (inr clear) = inr (record { starts = clear.0; ranges = ends p q clear.1 })
+apart_from_clear p q (inr clear) = inr (record { starts = differ p q clear; ranges = ends p q clear })
   where
-    ends : (p q : Part) → (max p.span.start p.span.end ≤ q.span.start) ⊎ (max q.span.start q.span.end ≤ p.span.start) → (p.span.end ≤ q.span.start) ⊎ (q.span.end ≤ p.span.start)
-    ends p q (inl le) = inl (omega arith)
-    ends p q (inr le) = inr (omega arith)
+    differ : (p q : Part) → (last_of p.span < q.span.start) ⊎ (last_of q.span < p.span.start) → p.span.start ≡ q.span.start → ⊥
+    differ p q clear same = omega (arith, clear, same)
 
-pub applicable : (sources : List (List ℕ)) (taken : List Suggestion) (m : Ends) → All (LiesIn sources) (all_parts taken) → Holds m (all_parts taken) → AreApplicable sources taken
+    ends : (p q : Part) → (last_of p.span < q.span.start) ⊎ (last_of q.span < p.span.start) → (p.span.end ≤ q.span.start) ⊎ (q.span.end ≤ p.span.start)
+    ends p q (inl lt) = inl (omega arith)
+    ends p q (inr lt) = inr (omega arith)
+
+pub applicable : (sources : List (List ℕ)) (taken : List Suggestion) (m : Ends) → All (LiesIn sources) (all_parts taken) → HoldsClear m (all_parts taken) → AreApplicable sources taken
 applicable sources taken m lie holds = record {
   lie = lie;
   apart = λ i j d lt l. apart_from_clear (get_or (all_parts taken) i d) (get_or (all_parts taken) j d) (holds.clear i j d lt l);
@@ -41,7 +44,7 @@ all_parts-more taken i s lt is =
 pub all_lie : (sources : List (List ℕ)) (taken : List Suggestion) (i : ℕ) (s : Suggestion) → i < length taken → s ≡ get_or taken i s → All (LiesIn sources) (all_parts (take i taken)) → All (LiesIn sources) s.parts → All (LiesIn sources) (all_parts (take (i + 1) taken))
 all_lie sources taken i s lt is before here = subst (λ ps. All (LiesIn sources) ps) (all_parts-more taken i s lt is) (All-append (LiesIn sources) (all_parts (take i taken)) s.parts before here)
 
-pub is_refused : (sources : List (List ℕ)) (taken : List Suggestion) (m : Ends) (i : ℕ) (s : Suggestion) (e : BadEdit) → i < length taken → s ≡ get_or taken i s → All (LiesIn sources) (all_parts (take i taken)) → Holds m (all_parts (take i taken)) → IsFault sources (all_parts (take i taken)) s.parts i e → IsRefused sources taken e
+pub is_refused : (sources : List (List ℕ)) (taken : List Suggestion) (m : Ends) (i : ℕ) (s : Suggestion) (e : BadEdit) → i < length taken → s ≡ get_or taken i s → All (LiesIn sources) (all_parts (take i taken)) → HoldsClear m (all_parts (take i taken)) → IsFault sources (all_parts (take i taken)) s.parts i e → IsRefused sources taken e
 is_refused sources taken m i s e lt is lie holds fault = refused e fault
   where
     stands : (w : ℕ) → w ≡ i → StandsAt sources taken w s

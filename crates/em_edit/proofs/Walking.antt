@@ -15,9 +15,7 @@ use Rattle.em_base.specs.declared.edit.Part.{Part}
 use Rattle.em_base.specs.declared.edit.Suggestion.{Suggestion}
 use Rattle.em_base.specs.declared.place.Span.{Span}
 use Rattle.em_edit.specs.Selected.{IsBefore, IsWalk, Takes, IsSelection, Turn, turn_of, turns_from}
-use Rattle.em_edit.specs.Ends.{AreClear}
-use Rattle.em_edit.specs.Meet.{TwoMeet}
-use Rattle.em_edit.proofs.Clearance.{no_two_meet}
+use Rattle.em_edit.specs.Meet.{OneMeets}
 use Rattle.em_edit.proofs.Pairs.{AllPairs-map, AllPairs-permutation}
 
 -- a turn of a finding at its index, counted from a first one
@@ -116,12 +114,12 @@ is_walk findings start ts is moved sorted =
 abbrev pub Onward : List Suggestion → List Part → List ℕ → List ℕ → List ℕ → Type 0
 Onward findings before left all taken = (rest : List ℕ) → Takes findings before left rest → Takes findings [] all (taken ++ rest)
 
-pub onward_taken : (findings : List Suggestion) (before : List Part) (left all taken : List ℕ) (i : ℕ) (s : Suggestion) → slice_get findings i ≡ Some s → AllPairs AreClear (before ++ s.parts) → Onward findings before (i ∷ left) all taken → Onward findings (before ++ s.parts) left all (taken ++ i ∷ [])
-onward_taken findings before left all taken i s is clear onward rest h =
-    subst (Takes findings [] all) (sym (append_assoc taken (i ∷ []) rest)) (onward (i ∷ rest) (s, is, inl (no_two_meet (before ++ s.parts) clear, (rest, refl, h))))
+pub onward_taken : (findings : List Suggestion) (before : List Part) (left all taken : List ℕ) (i : ℕ) (s : Suggestion) → slice_get findings i ≡ Some s → (OneMeets s.parts before → ⊥) → Onward findings before (i ∷ left) all taken → Onward findings (before ++ s.parts) left all (taken ++ i ∷ [])
+onward_taken findings before left all taken i s is free onward rest h =
+    subst (Takes findings [] all) (sym (append_assoc taken (i ∷ []) rest)) (onward (i ∷ rest) (s, is, inl (free, (rest, refl, h))))
 
-pub onward_left : (findings : List Suggestion) (before : List Part) (left all taken : List ℕ) (i : ℕ) (s : Suggestion) → slice_get findings i ≡ Some s → TwoMeet (before ++ s.parts) → Onward findings before (i ∷ left) all taken → Onward findings before left all taken
-onward_left findings before left all taken i s is two onward rest h = onward rest (s, is, inr (two, h))
+pub onward_left : (findings : List Suggestion) (before : List Part) (left all taken : List ℕ) (i : ℕ) (s : Suggestion) → slice_get findings i ≡ Some s → OneMeets s.parts before → Onward findings before (i ∷ left) all taken → Onward findings before left all taken
+onward_left findings before left all taken i s is met onward rest h = onward rest (s, is, inr (met, h))
 
 -- the turn at an index is that of a finding
 pub next_index : (items : List Turn) (k : ℕ) (d : Turn) → k < length items → map (λ t. t.1) (drop k items) ≡ (get_or items k d).1 ∷ map (λ t. t.1) (drop (k + 1) items)

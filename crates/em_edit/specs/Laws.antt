@@ -4,8 +4,8 @@ use Rattle.std.specs.List.{filter_map}
 use Rattle.em_base.specs.declared.edit.Part.{Part}
 use Rattle.em_base.specs.declared.edit.Suggestion.{Suggestion}
 use Rattle.em_base.specs.declared.place.Span.{Span}
-use Rattle.em_edit.specs.Edited.{all_parts, parts_of, edited, edited_on}
-use Rattle.em_edit.specs.Fit.{LiesIn, AreApplicable}
+use Rattle.em_edit.specs.Edited.{parts_of, edited, edited_on}
+use Rattle.em_edit.specs.Fit.{AreApplicable}
 use Rattle.em_edit.specs.Moved.{moved_span}
 use Rattle.em_edit.specs.Selected.{IsSelection}
 
@@ -29,12 +29,13 @@ FirstPartFirst =
 abbrev pub picked : List Suggestion → List ℕ → List Suggestion
 picked findings indices = filter_map (λ i. slice_get findings i) indices
 
--- the findings that are taken can be applied, if their parts lie in the texts on boundaries
+-- the findings that are taken can be applied together, if each can be applied alone: its parts are ranges of the sources on
+-- character boundaries, and no two of them meet
 abbrev pub TakenFit : Type 0
 TakenFit =
     (sources : List (List ℕ)) (findings : List Suggestion) (taken : List ℕ)
     → IsSelection findings taken
-    → All (LiesIn sources) (all_parts (picked findings taken))
+    → All (λ s. AreApplicable sources (s ∷ [])) (picked findings taken)
     → AreApplicable sources (picked findings taken)
 
 -- no suggestion moves a range

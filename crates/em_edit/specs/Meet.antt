@@ -1,5 +1,5 @@
 -- Which parts meet.
-use Rattle.std.specs.Prelude.{◌≡◌, ◌⊎◌, ℕ, ◌<◌, ◌≤◌, List, Some, slice_get}
+use Rattle.std.specs.Prelude.{◌≡◌, ◌⊎◌, ℕ, ◌<◌, ◌≤◌, List, Some, slice_get, Any}
 use Rattle.em_base.specs.declared.edit.Part.{Part}
 
 -- the byte at an offset lies in the range of a part
@@ -33,3 +33,7 @@ pub record TwoMeet (parts : List Part) : Type 0 where
   pub first : slice_get parts one ≡ Some p
   pub second : slice_get parts other ≡ Some q
   pub meet : Meet p q
+
+-- some part of a list meets one of another list
+abbrev pub OneMeets : List Part → List Part → Type 0
+OneMeets parts others = Any (λ p. Any (Meet p) others) parts

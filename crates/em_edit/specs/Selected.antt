@@ -3,7 +3,7 @@ use Rattle.std.specs.Prelude.{◌≡◌, ◌⊎◌, ℕ, ◌+◌, ◌<◌, List,
 use Rattle.em_base.specs.declared.edit.Part.{Part}
 use Rattle.em_base.specs.declared.edit.Suggestion.{Suggestion}
 use Rattle.em_base.specs.declared.place.Span.{Span}
-use Rattle.em_edit.specs.Meet.{TwoMeet}
+use Rattle.em_edit.specs.Meet.{OneMeets}
 
 -- the order of ranges by file, start and end
 abbrev pub Precedes : Span → Span → Type 0
@@ -23,14 +23,14 @@ pub record IsWalk (findings : List Suggestion) (order : List ℕ) : Type 0 where
   pub all : (i : ℕ) → i < length findings → Contains order i
   pub ordered : AllPairs (IsBefore findings) order
 
--- of the findings that are left to walk these are taken, behind the parts that are taken: each exactly if no part of it
--- meets another of it or one of these
+-- of the findings that are left to walk these are taken, behind findings with these parts: each exactly if no part of it
+-- meets one of a finding that is taken before
 abbrev pub Takes : List Suggestion → List Part → List ℕ → List ℕ → Type 0
 Takes findings before [] taken = taken ≡ []
 Takes findings before (i ∷ is) taken =
     (s : Suggestion) × (slice_get findings i ≡ Some s)
-    × (((TwoMeet (before ++ s.parts) → ⊥) × ((rest : List ℕ) × (taken ≡ i ∷ rest) × Takes findings (before ++ s.parts) is rest))
-    ⊎ (TwoMeet (before ++ s.parts) × Takes findings before is taken))
+    × (((OneMeets s.parts before → ⊥) × ((rest : List ℕ) × (taken ≡ i ∷ rest) × Takes findings (before ++ s.parts) is rest))
+    ⊎ (OneMeets s.parts before × Takes findings before is taken))
 
 -- these findings are taken, in this order
 pub record IsSelection (findings : List Suggestion) (taken : List ℕ) : Type 0 where

@@ -1,7 +1,7 @@
 ghost use Rattle.std.specs.Prelude.{◌≡◌, ◌++◌, ◌<◌, ◌^◌, List, length, All, Any, MatchBool, IfErr, OnOk};
 ghost use Rattle.em_base.specs.declared.edit.Part.{Part};
 ghost use Rattle.em_edit.specs.Check.{IsFault};
-ghost use Rattle.em_edit.specs.Ends.{Holds};
+ghost use Rattle.em_edit.specs.Ends.{HoldsClear};
 ghost use Rattle.em_edit.specs.Faults.{IsInText, IsOnBoundaries, IsRefused};
 ghost use Rattle.em_edit.specs.Fit.{is_boundary, AreApplicable, LiesIn};
 
@@ -61,8 +61,8 @@ fn are_on_boundaries(sources: &[Bytes], parts: &[Part]) -> bool
 /// Whether the suggestion at an index can be applied behind those whose parts are in the map, and puts its parts in.
 fn check_one(sources: &[Bytes], ends: &mut Ends, which: u32, parts: &[Part]) -> Result<(), BadEdit>
     ensures lie { OnOk result (All (LiesIn sources.now) parts.now) }
-    ensures put { (before : List Part) → Holds ends.old before → OnOk result (Holds ends.new (before ++ parts.now)) }
-    ensures fault { (before : List Part) → Holds ends.old before → IfErr result (IsFault sources.now before parts.now which) }
+    ensures put { (before : List Part) → HoldsClear ends.old before → OnOk result (HoldsClear ends.new (before ++ parts.now)) }
+    ensures fault { (before : List Part) → HoldsClear ends.old before → IfErr result (IsFault sources.now before parts.now which) }
 {
     if !are_in_text(sources, parts) {
         return Err(BadEdit::OutOfText { which });

@@ -10,6 +10,8 @@ mod moving;
 mod order;
 mod selection;
 #[cfg(test)]
+mod selection_tests;
+#[cfg(test)]
 mod tests;
 mod texts;
 

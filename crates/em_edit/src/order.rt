@@ -6,6 +6,27 @@ ghost use Rattle.em_edit.specs.Order.{StartsNoLater};
 use em_base::{NoMemory, Part, Suggestion};
 use std::alloc::Global;
 
+/// Parts in the order of (file, start).
+fn sorted<'a>(mut parts: Vec<&'a Part>) -> Result<Vec<&'a Part>, NoMemory>
+    ensures same { IfOk result (λ v. IsPermutation (map (λ p. p.now) parts.entry.items) (map (λ p. p.now) v.items)) }
+    ensures order { IfOk result (λ v. AllPairs StartsNoLater (map (λ p. p.now) v.items)) }
+{
+    parts.sort_by_key(|part| (part.span.file, part.span.start))?;
+    Ok(parts)
+}
+
+/// The parts of a suggestion in the order of (file, start).
+pub fn in_order<'a>(alloc: Global, parts: &'a [Part]) -> Result<Vec<&'a Part>, NoMemory>
+    ensures same { IfOk result (λ v. IsPermutation parts.now (map (λ p. p.now) v.items)) }
+    ensures order { IfOk result (λ v. AllPairs StartsNoLater (map (λ p. p.now) v.items)) }
+{
+    let mut all = Vec::new(alloc);
+    for part in parts {
+        all.push(part)?;
+    }
+    sorted(all)
+}
+
 /// All parts of suggestions.
 fn parts_of<'a>(alloc: Global, taken: &'a [Suggestion]) -> Result<Vec<&'a Part>, NoMemory>
     ensures { IfOk result (λ v. map (λ p. p.now) v.items ≡ all_parts taken.now) }
@@ -24,7 +45,5 @@ pub fn ordered_parts<'a>(alloc: Global, taken: &'a [Suggestion]) -> Result<Vec<&
     ensures same { IfOk result (λ v. IsPermutation (all_parts taken.now) (map (λ p. p.now) v.items)) }
     ensures order { IfOk result (λ v. AllPairs StartsNoLater (map (λ p. p.now) v.items)) }
 {
-    let mut parts = parts_of(alloc, taken)?;
-    parts.sort_by_key(|part| (part.span.file, part.span.start))?;
-    Ok(parts)
+    sorted(parts_of(alloc, taken)?)
 }

@@ -33,7 +33,7 @@ fn walk(alloc: Global, findings: &[Suggestion]) -> Result<Vec<Turn>, NoMemory>
 
 /// The indices of the findings that are taken, in the order in which they are taken. They are walked by their anchors,
 /// (file, start, end), those with equal anchors in the order of the list. One is taken exactly if no part of it meets
-/// another of it or of one that is taken before.
+/// one of a finding that is taken before. Its own parts may meet one another; `apply` then refuses it.
 ///
 /// Takes time n log n in the number of findings and their parts.
 pub fn select(alloc: Global, findings: &List<Suggestion>) -> Result<List<u32>, NoMemory>

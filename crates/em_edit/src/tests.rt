@@ -152,6 +152,35 @@ fn findings_are_taken_in_the_order_of_their_anchors(rt: HostRuntime) {
     }
 }
 
+/// The rows at these indices.
+fn rows_at(alloc: Global, rows: &[Row], indices: &[u32]) -> Result<Vec<Row>, AllocError> {
+    let mut chosen = Vec::new(alloc);
+    for index in indices {
+        if let Some(row) = rows.get(*index as usize) {
+            chosen.push(*row)?;
+        }
+    }
+    Ok(chosen)
+}
+
+#[test]
+fn what_is_taken_is_applied(rt: HostRuntime) {
+    let rows: [(&str, [Row; 2], &str); 4] = [
+        ("ab", [(0, 0, 0, "x"), (0, 0, 0, "x")], "xab"),
+        ("abcd", [(0, 1, 3, "X"), (0, 0, 2, "Y")], "Ycd"),
+        ("abcd", [(0, 2, 4, "X"), (0, 0, 2, "Y")], "YX"),
+        ("abcd", [(0, 2, 2, "X"), (0, 0, 2, "Y")], "YXcd"),
+    ];
+    for (text, parts, expected) in rows {
+        let taken = selected(rt.alloc(), parts.as_slice()).expect(&rt, "memory");
+        let chosen = rows_at(rt.alloc(), parts.as_slice(), taken.as_slice()).expect(&rt, "memory");
+        assert!(rt; chosen.len() <= 2);
+        let new = applied(rt.alloc(), text, chosen.as_slice()).expect(&rt, "applied");
+        let texts = new.as_slice();
+        assert!(rt; texts.len() == 1 && texts[0].as_slice() == expected.as_bytes());
+    }
+}
+
 /// Where a range of the sources is after the suggestions.
 fn moved_in(
     alloc: Global,

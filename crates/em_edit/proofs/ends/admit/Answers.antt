@@ -1,21 +1,19 @@
-use Rattle.std.proofs.Common.{List, ◌++◌, true, false, Bool, Result, Ok, Err}
-use Rattle.std.specs.Prelude.{MatchBool, AllPairs, IfOk}
-use Rattle.std.proofs.lemmas.Bool.{MatchBool-at_true}
-use Rattle.em_base.specs.declared.edit.Part.{Part}
-use Rattle.em_edit.specs.Ends.{Ends, AreClear, Holds}
-use Rattle.em_edit.specs.Meet.{TwoMeet}
-use Rattle.em_edit.proofs.Clearance.{no_two_meet}
+use Rattle.std.proofs.Common.{map}
+use Rattle.std.specs.Prelude.{All}
+use Rattle.std.proofs.lemmas.Bool.{MatchBool-at_true, MatchBool-at_false}
+use Rattle.std.specs.List.Sorted.{IsPermutation}
+use Rattle.std.proofs.lemmas.List.Sorted.{All-permutation}
+use Rattle.em_edit.specs.Ends.{AreClear}
+use Rattle.em_edit.specs.Meet.{OneMeets}
+use Rattle.em_edit.proofs.Reach.{holds_permuted, none_meets}
 use Rattle.em_edit.proofs.ends.admit.Goals as goal
 
-all_in : (n : Ends) (before parts : List Part) (all : Bool) → AllPairs AreClear (before ++ parts) → MatchBool all (Holds n (before ++ parts)) (TwoMeet (before ++ parts)) → MatchBool all (Holds n (before ++ parts)) (TwoMeet (before ++ parts) × Holds n before)
-all_in n before parts true clear h = h
-all_in n before parts false clear h = absurd (no_two_meet (before ++ parts) clear h)
-
-admitted : {E : Type 0} (n : Ends) (before parts : List Part) (r : Result Bool E) → AllPairs AreClear (before ++ parts) → IfOk r (λ all. MatchBool all (Holds n (before ++ parts)) (TwoMeet (before ++ parts))) → IfOk r (λ all. MatchBool all (Holds n (before ++ parts)) (TwoMeet (before ++ parts) × Holds n before))
-admitted n before parts (Ok all) clear h = all_in n before parts all clear h
-admitted n before parts (Err e) clear h = h
+pub returns-then-meets_any : goal.returns-then-meets_any
+returns-then-meets_any c = λ before holds. (MatchBool-at_true (OneMeets c.args.parts.now before) (All (λ p. All (AreClear p) before) c.args.parts.now) c.if-meets_any.true (c.meets_any.ensures before holds), holds)
 
 pub returns : goal.returns
 returns c = λ before holds.
-    let clear = MatchBool-at_true (AllPairs AreClear (before ++ c.args.parts.now)) (TwoMeet (before ++ c.args.parts.now)) c.if-not-branch.false (c.in_ok-is_free.ensures before holds) in
-    admitted c.put_all.new.ends before c.args.parts.now c.put_all.result clear (c.put_all.ensures before holds)
+    let clear = MatchBool-at_false (OneMeets c.args.parts.now before) (All (λ p. All (AreClear p) before) c.args.parts.now) c.if-meets_any.false (c.meets_any.ensures before holds) in
+    let ordered = map (λ r. r.now) c.as_slice.result.now in
+    let same : IsPermutation c.args.parts.now ordered = rw c.as_slice.ensures.value c.in_ok-ordered.ensures.same in
+    (none_meets before c.args.parts.now clear, holds_permuted c.put_in_order.new.ends before ordered c.args.parts.now same (c.in_ok-put_in_order.ensures before holds (All-permutation (λ p. All (AreClear p) before) c.args.parts.now ordered same clear) (rw c.as_slice.ensures.value c.in_ok-ordered.ensures.order)))

@@ -6,7 +6,7 @@ use Rattle.em_base.specs.declared.edit.Part.{Part}
 use Rattle.em_base.specs.declared.edit.Suggestion.{Suggestion}
 use Rattle.em_edit.specs.Check.{IsFault}
 use Rattle.em_edit.specs.Edited.{all_parts}
-use Rattle.em_edit.specs.Ends.{Holds}
+use Rattle.em_edit.specs.Ends.{HoldsClear}
 use Rattle.em_edit.specs.Fit.{LiesIn, AreApplicable}
 use Rattle.em_edit.proofs.Refusals.{is_refused, applicable, all_lie, all_parts-more}
 use Rattle.em_edit.proofs.faults.check_all.Goals as goal
@@ -22,7 +22,7 @@ pub loop-which-preserved : goal.loop-which-preserved
 loop-which-preserved c = record {
   lie = all_lie c.args.sources.now c.args.taken.now c.loop-which.which c.index-taken-which.result c.loop-which-test.true c.index-taken-which.is c.loop-which.invariant.lie
       (subst (λ (ps : List Part). All (LiesIn c.args.sources.now) ps) c.as_slice.ensures c.in_ok-check_one.ensures.lie);
-  held = subst (λ (ps : List Part). Holds c.check_one.new.ends ps)
+  held = subst (λ (ps : List Part). HoldsClear c.check_one.new.ends ps)
       (ap (λ (ps : List Part). all_parts (take c.loop-which.which c.args.taken.now) ++ ps) c.as_slice.ensures ∙ all_parts-more c.args.taken.now c.loop-which.which c.index-taken-which.result c.loop-which-test.true c.index-taken-which.is)
       (c.in_ok-check_one.ensures.put (all_parts (take c.loop-which.which c.args.taken.now)) c.loop-which.invariant.held);
 }
