@@ -41,6 +41,15 @@ impl Name {
         })
     }
 
+    /// The name of a word: the text's Unicode Normalization Form C.
+    pub fn normal(alloc: Global, text: &str) -> Result<Name, NoMemory>
+        ensures { IfOk result (λ n. n ≡ encode_utf8_all (nfc (chars text.now))) }
+    {
+        Ok(Name {
+            text: RcStr::from_string(to_nfc(alloc, text)?)?,
+        })
+    }
+
     /// The same name, whose text isn't copied.
     pub fn share(&self) -> Result<Name, NoMemory>
         ensures { IfOk result (λ n. n ≡ self.now) }
@@ -73,8 +82,7 @@ pub fn is_name(alloc: Global, text: &str) -> Result<Option<Name>, NoMemory>
     if !is_identifier(&characters) {
         return Ok(None);
     }
-    let text = RcStr::from_string(to_nfc(alloc, text)?)?;
-    Ok(Some(Name { text }))
+    Ok(Some(Name::normal(alloc, text)?))
 }
 
 fn characters_of(alloc: Global, text: &str) -> Result<Vec<char>, NoMemory>

@@ -1,11 +1,1 @@
-pub mod Shapes
-pub mod Fronts
-pub mod Longest
-pub mod Found
-pub mod Ascii
-pub mod SpelledKinds
-pub mod Steps
-pub mod One
-pub mod Walk
-pub mod Places
-pub mod Marked
+pub mod Indices
