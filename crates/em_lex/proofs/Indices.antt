@@ -1,7 +1,10 @@
 -- The recursions of specs/Scan at an index.
 use Rattle.std.proofs.Common.{◌≡◌, ◌≢◌, ℕ, zero, suc, ◌+◌, ◌-◌, ◌<◌, ◌≤◌, Bool, true, false, not, cond, ◌&&◌, ◌||◌, ◌==◌, nat_le, List, [], ◌∷◌, ◌++◌, length, get_or, take, drop, Option, Some, None, refl, sym, ap, ◌∙◌, arith, add-one, add-zero, get_or-drop, append_assoc, append-nil}
 use Rattle.std.proofs.lemmas.Grind.{common_steps}
-use Rattle.std.proofs.lemmas.List.{drop_more, get_or_past, drop_all}
+use Rattle.std.proofs.lemmas.List.{drop_more, drop_all, take_more}
+use Rattle.std.proofs.lemmas.Str.{encodes-append}
+use Rattle.std.proofs.Common.{encode_utf8_all}
+use Rattle.std.specs.Char.{encode_utf8}
 use Rattle.std.specs.List.{prefix_len}
 use Rattle.em_lex.specs.Characters.{Chars}
 use Rattle.em_lex.specs.declared.piece.Form.{Form}
@@ -19,6 +22,11 @@ after_after a b c (Some n) e = let h : a + (b + n) ≡ c + n = omega arith in ap
 pub after-zero : (o : Option ℕ) → after 0 o ≡ o
 after-zero None = refl
 after-zero (Some n) = let h : 0 + n ≡ n = omega arith in ap (λ k. Some k) h
+
+-- the bytes of one character more
+pub encode-more : (cs : Chars) (i : ℕ) → i < length cs → encode_utf8_all (take (i + 1) cs) ≡ encode_utf8_all (take i cs) ++ encode_utf8 (get_or cs i 0)
+encode-more cs i h =
+    ap encode_utf8_all (take_more cs i 0 h) ∙ encodes-append (take i cs) (get_or cs i 0 ∷ []) ∙ ap (λ l. encode_utf8_all (take i cs) ++ l) (append-nil (encode_utf8 (get_or cs i 0)))
 
 -- ---- block comments
 
@@ -153,4 +161,13 @@ read-goes byte form cs i u h is some fits =
     let same : i + 1 + (u.len - 1) ≡ i + u.len = omega (arith, some) in
     rw (drop_more cs i 0 h, here, skip, same) (ahead_ahead 1 (u.len - 1) u.len (listed u.value) [] _ (omega (arith, some)) ∙ ap (λ (l : Chars). ahead u.len l (read byte form 0 (drop (i + u.len) cs))) (append-nil (listed u.value)))
 
+-- at the front
+pub read-front : (byte : Bool) (form : Form) (cs : Chars) (u : Part) → unit_at byte form cs ≡ Some u → 1 ≤ u.len → u.len ≤ length cs
+    → read byte form 0 cs ≡ ahead u.len (listed u.value) (read byte form 0 (drop u.len cs))
+read-front byte form cs u is some fits =
+    let z : 0 + u.len ≡ u.len = omega arith in
+    read-goes byte form cs 0 u (omega (arith, some, fits)) is some (omega (arith, fits)) ∙ ap (λ n. ahead u.len (listed u.value) (read byte form 0 (drop n cs))) z
+
 pub ruleset value_steps = (value_from-end, value_from-skip, value_from-none, value_from-digit)
+
+pub ruleset reading_steps = (ahead_ahead, ahead-zero, read-end, read-bad, read-goes)

@@ -124,16 +124,24 @@ pub data OneCharacter (byte : Bool) (body after : Chars) : Type 0 where
   escape : (cs value : Chars) → body ≡ 92 ∷ cs → IsUnit byte Single body value (39 ∷ after) → OneCharacter byte body after
   broken : (c : ℕ) (cs : Chars) → body ≡ 92 ∷ c ∷ cs → list_all not_quote cs ≡ true → NoUnit byte Single (body ++ 39 ∷ after) → OneCharacter byte body after
 
--- what follows a literal's opening is its body, the closing and what is left; the body need not be well formed, and of a
--- raw literal it ends at the first closing
-abbrev pub Closed : Bool → Form → Chars → Chars → Chars → Type 0
-Closed byte Quoted cs body after = (cs ≡ body ++ 34 ∷ after) × Loose body
-Closed byte Single cs body after = (cs ≡ body ++ 39 ∷ after) × OneCharacter byte body after
-Closed byte (Raw n) cs body after = (cs ≡ body ++ (closing (Raw n) ++ after)) × ((x y : Chars) → cs ≡ x ++ (closing (Raw n) ++ y) → length body ≤ length x)
+-- no closing begins inside a raw body
+abbrev pub ClosesFirst : ℕ → Chars → Type 0
+ClosesFirst n body = (x y : Chars) → body ++ closing (Raw n) ≡ x ++ (closing (Raw n) ++ y) → length body ≤ length x
+
+-- the body of a literal, well formed or not, before its closing and what is left
+abbrev pub IsBody : Bool → Form → Chars → Chars → Type 0
+IsBody byte Quoted body after = Loose body
+IsBody byte Single body after = OneCharacter byte body after
+IsBody byte (Raw n) body after = ClosesFirst n body
+
+-- what follows a literal's opening is its body, the closing and what is left
+pub record Closed (byte : Bool) (form : Form) (cs body after : Chars) : Type 0 where
+  pub parts : cs ≡ body ++ (closing form ++ after)
+  pub is_body : IsBody byte form body after
 
 -- the spelling of a literal with these characters
 pub record IsLiteral (byte : Bool) (form : Form) (w value : Chars) : Type 0 where
   pub body : Chars
   pub parts : w ≡ opening byte form ++ (body ++ closing form)
-  pub closed : Closed byte form (body ++ closing form) body []
+  pub is_body : IsBody byte form body []
   pub units : Units byte form body value []

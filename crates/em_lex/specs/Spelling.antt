@@ -13,7 +13,7 @@ use Rattle.em_lex.specs.Numbers.{IsInt}
 
 -- the names of which there is no raw form (Reference, "Raw identifiers")
 abbrev pub never_raw : List (List ℕ)
-never_raw = codes "_" ∷ codes "crate" ∷ codes "self" ∷ codes "super" ∷ codes "Self" ∷ []
+never_raw = codes "crate" ∷ codes "self" ∷ codes "super" ∷ codes "Self" ∷ []
 
 abbrev pub is_among : List (List ℕ) → List ℕ → Bool
 is_among list w = list_any (bytes_eq w) list

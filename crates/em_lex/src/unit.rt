@@ -116,6 +116,15 @@ fn is_line_end(cs: &[char]) -> bool
     char_at(cs, 0) == '\n' || (char_at(cs, 0) == '\r' && char_at(cs, 1) == '\n')
 }
 
+fn is_quoted(form: Form) -> bool
+    ensures { result ≡ spec.quoted_form form }
+{
+    match form {
+        Form::Quoted => true,
+        _ => false,
+    }
+}
+
 fn other_escape(byte: bool, form: Form, cs: &[char]) -> Option<Unit>
     ensures { result ≡ spec.other_escape byte form cs.now }
 {
@@ -124,7 +133,7 @@ fn other_escape(byte: bool, form: Form, cs: &[char]) -> Option<Unit>
         code_at(byte, char_at(cs, 1), char_at(cs, 2))
     } else if c == 'u' && char_at(cs, 1) == '{' && !byte {
         unicode_at(rest_from(cs, 2))
-    } else if form == Form::Quoted && is_line_end(cs) {
+    } else if is_quoted(form) && is_line_end(cs) {
         Some(Unit {
             len: 1 + skipped_run(cs),
             value: None,
