@@ -4,3 +4,8 @@ pub mod Values
 pub mod UnitLemmas
 pub mod BodyLemmas
 pub mod Heads
+pub mod Pieces
+pub mod LiteralLemmas
+pub mod ReadOn
+pub mod WordLemmas
+pub mod NumberLemmas

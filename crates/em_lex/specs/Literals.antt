@@ -139,9 +139,15 @@ pub record Closed (byte : Bool) (form : Form) (cs body after : Chars) : Type 0 w
   pub parts : cs ≡ body ++ (closing form ++ after)
   pub is_body : IsBody byte form body after
 
--- the spelling of a literal with these characters
+-- what a body denotes: what its units do, and between `'` what the one unit does that it is
+abbrev pub Denotes : Bool → Form → Chars → Chars → Type 0
+Denotes byte Quoted body value = Units byte Quoted body value []
+Denotes byte Single body value = IsUnit byte Single body value []
+Denotes byte (Raw n) body value = Units byte (Raw n) body value []
+
+-- the spelling of a literal that denotes these characters
 pub record IsLiteral (byte : Bool) (form : Form) (w value : Chars) : Type 0 where
   pub body : Chars
   pub parts : w ≡ opening byte form ++ (body ++ closing form)
   pub is_body : IsBody byte form body []
-  pub units : Units byte form body value []
+  pub denotes : Denotes byte form body value

@@ -1,4 +1,4 @@
-ghost use Rattle.std.specs.Prelude.{◌≡◌, ◌<◌, ◌≤◌, ◌+◌, ◌*◌, ◌^◌, ◌==◌, ◌&&◌, ◌||◌, not, nat_lt, true, false, length, slice_index, drop, [], ◌∷◌, IfSome, IfOk};
+ghost use Rattle.std.specs.Prelude.{◌≡◌, ◌<◌, ◌≤◌, ◌+◌, ◌*◌, ◌^◌, ◌==◌, ◌&&◌, ◌||◌, not, nat_lt, true, false, length, slice_index, drop, [], ◌∷◌, ◌++◌, IfSome, IfOk, OnOk};
 ghost use Rattle.std.specs.Char.{is_ascii_hexdigit, digit_value};
 ghost use Rattle.std.specs.List.{prefix_len, count_by};
 ghost use Rattle.em_lex.specs.Scan as spec;
@@ -174,8 +174,16 @@ fn stands(form: Form, c: char) -> bool
 }
 
 /// The unit at the front of what is left of the body of a literal.
-#[tactic(auto, unfolding(crate::specs::Scan::unit_at))]
+#[tactic(auto, using(crate::proofs::ReadOn::unit_within))]
 pub fn unit_at(byte: bool, form: Form, cs: &[char]) -> Option<Unit>
+    ensures value { result ≡ spec.unit_at byte form cs.now }
+    ensures within { IfSome result (λ u. (1 ≤ u.len) × (u.len ≤ length cs.now)) }
+{
+    front_unit(byte, form, cs)
+}
+
+#[tactic(auto, unfolding(crate::specs::Scan::unit_at))]
+fn front_unit(byte: bool, form: Form, cs: &[char]) -> Option<Unit>
     ensures { result ≡ spec.unit_at byte form cs.now }
 {
     let (c, rest) = cs.split_first()?;
@@ -201,6 +209,16 @@ pub struct Reading {
     pub value: Vec<char>,
 }
 
+/// Puts the character of a unit at the end.
+fn keep(value: &mut Vec<char>, c: Option<char>) -> Result<(), NoMemory>
+    ensures { OnOk result (value.new.items ≡ value.old.items ++ spec.listed c) }
+{
+    if let Some(c) = c {
+        value.push(c)?;
+    }
+    Ok(())
+}
+
 /// What a body denotes.
 #[tactic(auto, using(crate::proofs::Indices::reading_steps))]
 pub fn read(alloc: Global, byte: bool, form: Form, cs: &[char]) -> Result<Reading, NoMemory>
@@ -217,9 +235,7 @@ pub fn read(alloc: Global, byte: bool, form: Form, cs: &[char]) -> Result<Readin
                 value,
             });
         };
-        if let Some(c) = unit.value {
-            value.push(c)?;
-        }
+        keep(&mut value, unit.value)?;
         at += unit.len;
     }
     Ok(Reading { bad: None, value })
