@@ -1,6 +1,6 @@
 use Rattle.em_lex.proofs.LiteralLemmas.{literal_covers}
 use Rattle.em_lex.proofs.WordLemmas.{lifetime_covers}
-use Rattle.em_lex.proofs.NumberLemmas.{radix_is}
+use Rattle.em_lex.proofs.NumberLemmas.{suffix_told}
 use Rattle.em_lex.proofs.laws.lexing_is_one.Goals as goal
 
 pub returns : goal.returns
