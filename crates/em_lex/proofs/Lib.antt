@@ -9,3 +9,5 @@ pub mod LiteralLemmas
 pub mod ReadOn
 pub mod WordLemmas
 pub mod NumberLemmas
+pub mod TriviaLemmas
+pub mod MarkLemmas

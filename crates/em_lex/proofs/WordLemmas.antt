@@ -313,31 +313,31 @@ plain_covers text v w i f =
     (λ t. (f.short, λ e. absurd (both_ways (is_identifier (codes "_")) refl (ap is_identifier (sym (f.same e ∙ same_text w (codes "_") t)) ∙ i))))
     (λ t. (f.short, λ e. ap (λ x. Ident (name_of x) false) (f.same e)))
 
-prefixed_covers : (e : Edition) (text v w : Chars) → is_identifier v ≡ true → WordFront v w → Covered text (prefixed e w (length w)) (Ident (name_of v) false) (length v)
-prefixed_covers e text v w i f =
-    pick (λ p. Covered text p (Ident (name_of v) false) (length v)) (is_2021 e) _ _ (λ t. tt) (λ t. plain_covers text v w i f)
-
-before_covers : (e : Edition) (text v w rest : Chars) → is_identifier v ≡ true → WordFront v w → Covered text (word_before e w (length w) (first rest) rest) (Ident (name_of v) false) (length v)
-before_covers e text v w rest i f =
+-- what a word in front covers, by what it does alone
+pub before_covers : (e : Edition) (text w rest : Chars) (kind : TokenKind) (m : ℕ) → m ≤ length w → Covered text (plain_word w (length w)) kind m → Covered text (word_before e w (length w) (first rest) rest) kind m
+before_covers e text w rest kind m short alone =
     pick P (first rest == 34) _ _
     (λ t. pick P (bytes_eq w (codes "b")) _ _ (λ b. far 2 (small w (codes "b") 2 b (omega arith)) (literal_step true Quoted 2 (drop 1 rest)) (literal_far true Quoted 2 (drop 1 rest)))
     (λ b. pick P (bytes_eq w (codes "r")) _ _ (λ r. far 2 (small w (codes "r") 2 r (omega arith)) (literal_step false (Raw 0) 2 (drop 1 rest)) (literal_far false (Raw 0) 2 (drop 1 rest)))
     (λ r. pick P (bytes_eq w (codes "br")) _ _ (λ br. far 3 (small w (codes "br") 3 br (omega arith)) (literal_step true (Raw 0) 3 (drop 1 rest)) (literal_far true (Raw 0) 3 (drop 1 rest)))
-    (λ br. prefixed_covers e text v w i f))))
+    (λ br. pre))))
     (λ t. pick P (first rest == 35) _ _
     (λ t. pick P (bytes_eq w (codes "r")) _ _ (λ r. far 1 (small w (codes "r") 1 r (omega arith)) (hash_step false 1 rest) (hash_far false 1 rest (omega arith) (λ e. refl)))
     (λ r. pick P (bytes_eq w (codes "br")) _ _ (λ br. far 2 (small w (codes "br") 2 br (omega arith)) (hash_step true 2 rest) (hash_far true 2 rest (omega arith) (λ e. absurd (true_false e))))
-    (λ br. prefixed_covers e text v w i f)))
+    (λ br. pre)))
     (λ t. pick P (first rest == 39) _ _
     (λ t. pick P (bytes_eq w (codes "b")) _ _ (λ b. far 2 (small w (codes "b") 2 b (omega arith)) (literal_step true Single 2 (drop 1 rest)) (literal_far true Single 2 (drop 1 rest)))
-    (λ b. prefixed_covers e text v w i f))
-    (λ t. plain_covers text v w i f)))
+    (λ b. pre))
+    (λ t. alone)))
   where
     P : Piece → Type 0
-    P p = Covered text p (Ident (name_of v) false) (length v)
+    P p = Covered text p kind m
 
     far : (at : ℕ) → length w ≤ at → (p : Piece) → Far at p → P p
-    far at h p k = far_covers text at (length v) (Ident (name_of v) false) p (omega (arith, h, f.short)) k
+    far at h p k = far_covers text at m kind p (omega (arith, h, short)) k
+
+    pre : P (prefixed e w (length w))
+    pre = pick P (is_2021 e) _ _ (λ t. tt) (λ t. alone)
 
     small : (w x : Chars) (at : ℕ) → bytes_eq w x ≡ true → length x ≤ at → length w ≤ at
     small w x at e h = subst (λ y. length y ≤ at) (sym (same_text w x e)) h
@@ -355,11 +355,30 @@ word_covers e dot (c ∷ v) rest i = whole (passed is_xid_continue (v ++ rest))
         let found : step e dot (c ∷ (v ++ rest)) ≡ word_before e (c ∷ p.front) (length (c ∷ p.front)) (first p.rest) p.rest =
             step_word e dot c (v ++ rest) b.0 ∙ ap (λ xs. word_step e (c ∷ xs)) p.parts ∙ word_ends e c p.front p.rest p.all p.ends in
         subst (λ q. Covered ((c ∷ v) ++ rest) q (Ident (name_of (c ∷ v)) false) (length (c ∷ v))) (sym found)
-        (before_covers e ((c ∷ v) ++ rest) (c ∷ v) (c ∷ p.front) p.rest i (record { short = omega (arith, long); same = λ e. ap (λ x. c ∷ x) (same_front v p.front rest p.rest p.parts (omega (arith, e))).0 }))
+        (before_covers e ((c ∷ v) ++ rest) (c ∷ p.front) p.rest (Ident (name_of (c ∷ v)) false) (length (c ∷ v)) (omega (arith, long))
+        (plain_covers ((c ∷ v) ++ rest) (c ∷ v) (c ∷ p.front) i (record { short = omega (arith, long); same = λ e. ap (λ x. c ∷ x) (same_front v p.front rest p.rest p.parts (omega (arith, e))).0 })))
 
 -- a character that begins a word is none that doesn't
 apart : (c d : ℕ) → is_start c ≡ true → is_start d ≡ false → (c == d) ≡ false
 apart c d h k = by_test _ (c == d) (λ t. absurd (both_ways _ k (subst (λ x. is_start x ≡ true) (eqb-true c d t) h))) (λ t. t)
+
+-- `_` alone is found, unless a longer token or a fault is
+pub under_covers : (e : Edition) (dot : Bool) (rest : Chars) → Covered (95 ∷ rest) (step e dot (95 ∷ rest)) Punct 1
+under_covers e dot rest = whole (passed is_xid_continue rest)
+  where
+    longer : (f : Chars) → bytes_eq (95 ∷ f) (codes "_") ≡ false → 1 ≡ length (95 ∷ f) → ⊥
+    longer [] t e = impossible (sym t)
+    longer (c ∷ f) t e = omega (arith, e)
+
+    alone : (f : Chars) → Covered (95 ∷ rest) (plain_word (95 ∷ f) (length (95 ∷ f))) Punct 1
+    alone f = pick (λ q. Covered (95 ∷ rest) q Punct 1) (bytes_eq (95 ∷ f) (codes "_")) _ _ (λ t. (omega arith, λ e. refl)) (λ t. (omega arith, λ e. absurd (longer f t e)))
+
+    whole : Passed is_xid_continue rest → Covered (95 ∷ rest) (step e dot (95 ∷ rest)) Punct 1
+    whole p =
+        let found : step e dot (95 ∷ rest) ≡ word_before e (95 ∷ p.front) (length (95 ∷ p.front)) (first p.rest) p.rest =
+            step_word e dot 95 rest refl ∙ ap (λ xs. word_step e (95 ∷ xs)) p.parts ∙ word_ends e 95 p.front p.rest p.all p.ends in
+        subst (λ q. Covered (95 ∷ rest) q Punct 1) (sym found)
+        (before_covers e (95 ∷ rest) (95 ∷ p.front) p.rest Punct 1 (omega arith) (alone p.front))
 
 -- a raw identifier that is spelled in front is found, unless a longer one or a fault is
 pub raw_covers : (e : Edition) (dot : Bool) (v rest : Chars) (name : List ℕ) → IsRawWord v name → Covered (v ++ rest) (step e dot (v ++ rest)) (Ident name true) (length v)
