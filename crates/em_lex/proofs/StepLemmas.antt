@@ -174,7 +174,7 @@ hash_br_told : (e : Edition) (dot : Bool) (cs : Chars) → (BeginsRawString (35 
 hash_br_told e dot cs none =
     subst (λ p. Told p BadRaw 0) (sym (word_at e dot (98 ∷ 114 ∷ []) 35 cs word_br refl ∙ hash_told e dot true cs none (λ f. absurd (impossible (sym f))) 2)) (same_told BadRaw 0)
 
-opening_some : (byte : Bool) (form : Form) → 0 < length (opening byte form)
+pub opening_some : (byte : Bool) (form : Form) → 0 < length (opening byte form)
 opening_some true form = omega arith
 opening_some false Quoted = omega arith
 opening_some false Single = omega arith
