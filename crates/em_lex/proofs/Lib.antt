@@ -13,3 +13,4 @@ pub mod TriviaLemmas
 pub mod MarkLemmas
 pub mod StepLemmas
 pub mod LexingLemmas
+pub mod WalkLemmas
