@@ -14,3 +14,4 @@ pub mod MarkLemmas
 pub mod StepLemmas
 pub mod LexingLemmas
 pub mod WalkLemmas
+pub mod TotalLemmas
