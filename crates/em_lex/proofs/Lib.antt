@@ -15,3 +15,4 @@ pub mod StepLemmas
 pub mod LexingLemmas
 pub mod WalkLemmas
 pub mod TotalLemmas
+pub mod TextLemmas
