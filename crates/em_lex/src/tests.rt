@@ -150,7 +150,7 @@ fn texts_have_these_tokens(rt: HostRuntime) -> Result<(), Fail> {
             "\"a\\\n \t\r\n b\" \"c\r\nd\"",
             "str [ab] 0..11; str [c\nd] 12..18; ",
         ),
-        (E18, "\"a\\\r\n  b\"", "str [ab] 0..8; "),
+        (E18, "\"a\\\r\n  b\"", "str [ab] 0..9; "),
         (E21, "\"/* // \0\"", "str [/* // \0] 0..9; "),
         (
             E15,
