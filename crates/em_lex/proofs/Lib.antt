@@ -11,3 +11,4 @@ pub mod WordLemmas
 pub mod NumberLemmas
 pub mod TriviaLemmas
 pub mod MarkLemmas
+pub mod Places

@@ -27,6 +27,7 @@ pub fn marked_text_lexes()
 
 /// The tokens of a text lie in it in order, each with the bytes of its span, and cut no character. What lies between them
 /// is whitespace and comments alone, by the definition of `Lexes`.
+#[tactic(auto, using(crate::proofs::Places::tokens_in_text))]
 pub fn tokens_lie_in_text()
     ensures { TokensInText }
 {}
