@@ -12,3 +12,4 @@ pub mod NumberLemmas
 pub mod TriviaLemmas
 pub mod MarkLemmas
 pub mod Places
+pub mod MarkedText
