@@ -1,3 +1,7 @@
+pub mod Places
+pub mod MarkedText
+pub mod MarkedLooks
+pub mod Marked
 pub mod Indices
 pub mod Base
 pub mod Values
@@ -11,5 +15,5 @@ pub mod WordLemmas
 pub mod NumberLemmas
 pub mod TriviaLemmas
 pub mod MarkLemmas
-pub mod Places
-pub mod MarkedText
+pub mod StepLemmas
+pub mod LexingLemmas

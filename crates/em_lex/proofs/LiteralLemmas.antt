@@ -30,7 +30,7 @@ pub starts_same : (cs : Chars) → starts_word cs ≡ starts is_start cs
 starts_same [] = refl
 starts_same (c ∷ cs) = refl
 
-fault_same : (form : Form) (c : ℕ) → body_fault form c ≡ bad_unit form c
+pub fault_same : (form : Form) (c : ℕ) → body_fault form c ≡ bad_unit form c
 fault_same Quoted c = pick (λ (k : LexKind). cond (c == 92 && true) BadEscape BadCharacter ≡ k) (c == 92) BadEscape BadCharacter (λ h. rw h) (λ h. rw h)
 fault_same Single c = pick (λ (k : LexKind). cond (c == 92 && true) BadEscape BadCharacter ≡ k) (c == 92) BadEscape BadCharacter (λ h. rw h) (λ h. rw h)
 fault_same (Raw n) c = pick (λ (k : LexKind). cond (c == 92 && false) BadEscape BadCharacter ≡ BadCharacter) (c == 92) BadEscape BadCharacter (λ h. rw h) (λ h. rw h)

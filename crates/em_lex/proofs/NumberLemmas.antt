@@ -76,7 +76,7 @@ each_base P true w f g h k = k
 each_base P false w f g h k =
     pick P (begins (codes "0x") w) _ _ f (λ _. pick P (begins (codes "0o") w) _ _ g (λ _. pick P (begins (codes "0b") w) _ _ h (λ _. k)))
 
-marked : (w : Chars) (x : Chars) → begins x w ≡ true → w ≡ x ++ drop (length x) w
+pub marked : (w : Chars) (x : Chars) → begins x w ≡ true → w ≡ x ++ drop (length x) w
 marked w x h = (starts_is Decides-eqb w x _ refl).0 h
 
 base_front : (dot : Bool) (w : Chars) → w ≡ base_mark (base_of dot w) ++ drop (mark_len (base_of dot w)) w

@@ -55,7 +55,7 @@ plain_holds e dot w rest h =
     (λ t. (record { w = w; left = rest; parts = refl; len = refl }, subst (λ w. is_among punctuation w ≡ true) (sym (same_text w (codes "_") t)) refl))
     (λ t. (record { w = w; left = rest; parts = refl; len = refl }, (both (is_word w) _ h (rw t), refl)))
 
-same_edition : (e : Edition) → is_2021 e ≡ reserves e
+pub same_edition : (e : Edition) → is_2021 e ≡ reserves e
 same_edition E2015 = refl
 same_edition E2018 = refl
 same_edition E2021 = refl
@@ -99,12 +99,12 @@ is_hashes [] h = refl
 is_hashes (c ∷ cs) h = let a = and_parts (hash c) (list_all hash cs) h in ap (λ c. c ∷ cs) (eqb-true c 35 a.0) ∙ ap (λ xs. 35 ∷ xs) (is_hashes cs a.1)
 
 -- so many `#` and then a `"`
-record HashQuote (cs : Chars) (n : ℕ) : Type 0 where
-  rest : Chars
-  parts : cs ≡ hashes n ++ 34 ∷ rest
-  left : drop (n + 1) cs ≡ rest
+pub record HashQuote (cs : Chars) (n : ℕ) : Type 0 where
+  pub rest : Chars
+  pub parts : cs ≡ hashes n ++ 34 ∷ rest
+  pub left : drop (n + 1) cs ≡ rest
 
-hash_quote : (cs : Chars) → (get_or cs (prefix_len hash cs) 0 == 34) ≡ true → HashQuote cs (prefix_len hash cs)
+pub hash_quote : (cs : Chars) → (get_or cs (prefix_len hash cs) 0 == 34) ≡ true → HashQuote cs (prefix_len hash cs)
 hash_quote cs t = whole (passed hash cs)
   where
     whole : Passed hash cs → HashQuote cs (prefix_len hash cs)
@@ -128,7 +128,7 @@ no_string cs t (n, rest, e) =
     let index : get_or cs (prefix_len hash cs) 0 ≡ 34 = ap (get_or cs (prefix_len hash cs)) refl ∙ ap (λ k. get_or cs k 0) many ∙ ap (λ xs. get_or xs (length (hashes n)) 0) e ∙ index_front (hashes n) 34 rest in
     both_ways _ t (ap (λ x. x == 34) index)
 
-free_name : (name : List ℕ) → not_raw name ≡ false → is_never_raw name ≡ false
+pub free_name : (name : List ℕ) → not_raw name ≡ false → is_never_raw name ≡ false
 free_name name h = four (bytes_eq name (codes "crate")) (bytes_eq name (codes "self")) (bytes_eq name (codes "super")) (bytes_eq name (codes "Self")) h
   where
     four : (a b c d : Bool) → (a || b || c || d) ≡ false → (a || (b || (c || (d || false)))) ≡ false
@@ -152,7 +152,7 @@ pub run_is : (c : ℕ) (w rest : Chars) → list_all is_xid_continue w ≡ true 
 run_is c w rest h k = ap (λ n. suc n) (prefix_all is_xid_continue w rest h k)
 
 -- the word behind `r#`
-raw_is : (c : ℕ) (w rest : Chars) → list_all is_xid_continue w ≡ true → starts is_xid_continue rest ≡ false
+pub raw_is : (c : ℕ) (w rest : Chars) → list_all is_xid_continue w ≡ true → starts is_xid_continue rest ≡ false
     → raw_word (c ∷ (w ++ rest)) ≡ cond (is_start c && not (bytes_eq (c ∷ w) (codes "_") || not_raw (name_of (c ∷ w)))) (Took (Ident (name_of (c ∷ w)) true) (2 + length (c ∷ w))) (Bad BadRaw 0)
 raw_is c w rest h k =
     let n = run_is c w rest h k in
@@ -408,7 +408,7 @@ raw_covers e dot v rest name r = subst (λ x. Covered (x ++ rest) (step e dot (x
 
 -- ---- at a `'`
 
-lifetime_is : (c : ℕ) (w rest : Chars) → list_all is_xid_continue w ≡ true → starts is_xid_continue rest ≡ false
+pub lifetime_is : (c : ℕ) (w rest : Chars) → list_all is_xid_continue w ≡ true → starts is_xid_continue rest ≡ false
     → lifetime_step (39 ∷ c ∷ (w ++ rest)) ≡ cond (first rest == 39 || first rest == 35) (Bad BadLifetime 0) (Took (Lifetime (name_of (c ∷ w))) (1 + length (c ∷ w)))
 unfolding lifetime_step
 lifetime_is c w rest h k =
@@ -419,7 +419,7 @@ lifetime_is c w rest h k =
     ∙ ap (λ x. cond (get_or (c ∷ (w ++ rest)) (length (c ∷ w)) 0 == 39 || get_or (c ∷ (w ++ rest)) (length (c ∷ w)) 0 == 35) (Bad BadLifetime 0) (Took (Lifetime (name_of x)) (1 + length (c ∷ w)))) t
     ∙ ap (λ d. cond (d == 39 || d == 35) (Bad BadLifetime 0) (Took (Lifetime (name_of (c ∷ w))) (1 + length (c ∷ w)))) i
 
-quote_if : (cs : Chars) (P : Piece → Type 0) → ((starts_word cs && is_none (single_len false cs)) ≡ true → P (lifetime_step (39 ∷ cs))) → ((starts_word cs && is_none (single_len false cs)) ≡ false → P (literal_step false Single 1 cs)) → P (quote_step (39 ∷ cs))
+pub quote_if : (cs : Chars) (P : Piece → Type 0) → ((starts_word cs && is_none (single_len false cs)) ≡ true → P (lifetime_step (39 ∷ cs))) → ((starts_word cs && is_none (single_len false cs)) ≡ false → P (literal_step false Single 1 cs)) → P (quote_step (39 ∷ cs))
 unfolding quote_step
 quote_if cs P f g = pick P (starts_word cs && is_none (single_len false cs)) _ _ f g
 

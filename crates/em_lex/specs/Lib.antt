@@ -9,3 +9,4 @@ pub mod Answers
 pub mod Marking
 pub mod Laws
 pub mod Scan
+pub mod Walk

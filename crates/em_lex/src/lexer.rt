@@ -1,6 +1,9 @@
-ghost use Rattle.std.specs.Prelude.{◌≡◌, ◌+◌, ◌-◌, ◌^◌, ◌<◌, ◌≤◌, length, chars, drop, min, IfOk, IfErr, OnOk};
+ghost use Rattle.std.specs.Prelude.{◌≡◌, ◌+◌, ◌-◌, ◌*◌, ◌^◌, ◌<◌, ◌≤◌, length, chars, drop, min, IfOk, IfErr, OnOk};
+ghost use Rattle.std.specs.Prelude.{[], ◌∷◌};
+ghost use Rattle.std.specs.Str.{bytes_eq};
 ghost use Rattle.em_lex.specs.Lexing.{Lexes, byte_len};
 ghost use Rattle.em_lex.specs.Answers.{Refused, most};
+ghost use Rattle.em_lex.specs.Walk.{token_at, behind_trivia, behind_token, piece_within, Kept, RefusedAt, LexesFrom, RefusedFrom};
 
 use crate::characters::{char_at, front, is_same, text_of};
 use crate::counter::Lexings;
@@ -17,6 +20,7 @@ const MOST: usize = 4_194_304;
 fn byte_len(cs: &[char]) -> usize
     requires { length cs.now < 2 ^ 32 }
     ensures value { result ≡ byte_len cs.now }
+    ensures within { result ≤ 4 * length cs.now }
 {
     let mut len = 0usize;
     for c in cs {
@@ -25,23 +29,29 @@ fn byte_len(cs: &[char]) -> usize
     len
 }
 
-/// A text of a file, where a token is made.
-#[derive(Clone, Copy)]
+/// Where the lexer stands in a file: the offset in bytes, whether a doc comment stands in the trivia before, and whether
+/// the token directly before is `.`.
+#[derive(Clone, Copy, Debug, PartialEq, Eq)]
 struct Place {
     file: u32,
     edition: Edition,
     start: u32,
     doc: bool,
+    dot: bool,
 }
 
+/// The token of a word at a place.
 fn token_of(
     alloc: Global,
     place: Place,
     kind: TokenKind,
     word: &[char],
-) -> Result<Token, NoMemory> {
+) -> Result<Token, NoMemory>
+    requires fits { place.start + byte_len word.now < 2 ^ 32 }
+    ensures { IfOk result (λ t. t ≡ token_at place.file place.edition place.start place.doc kind word.now) }
+{
     let text = Text::from_string(text_of(alloc, word)?)?;
-    let end = place.start + text.as_bytes().len() as u32;
+    let end = place.start + byte_len(word) as u32;
     Ok(Token {
         kind,
         text,
@@ -56,6 +66,59 @@ fn token_of(
     })
 }
 
+/// The place behind trivia.
+fn behind_trivia(place: Place, word: &[char], doc: bool) -> Place
+    requires fits { place.start + byte_len word.now < 2 ^ 32 }
+    ensures { result ≡ behind_trivia place (byte_len word.now) doc }
+{
+    Place {
+        start: place.start + byte_len(word) as u32,
+        doc: place.doc || doc,
+        dot: false,
+        ..place
+    }
+}
+
+/// The place behind a token.
+fn behind_token(place: Place, word: &[char]) -> Place
+    requires fits { place.start + byte_len word.now < 2 ^ 32 }
+    ensures { result ≡ behind_token place (byte_len word.now) (bytes_eq word.now (46 ∷ [])) }
+{
+    Place {
+        start: place.start + byte_len(word) as u32,
+        doc: false,
+        dot: is_same(word, &['.']),
+        ..place
+    }
+}
+
+/// Puts the token of a piece at the end, if it is one, and gives the place behind the piece, and its length.
+fn keep(
+    alloc: Global,
+    list: &mut List<Token>,
+    place: Place,
+    piece: Piece,
+    rest: &[char],
+) -> Result<(Place, usize), LexError>
+    requires within { piece_within piece rest.now }
+    requires fits { place.start + byte_len rest.now < 2 ^ 32 }
+    ensures kept { IfOk result (λ p. Kept list.old list.new place piece rest.now p.0 p.1) }
+    ensures refused { IfErr result (λ e. RefusedAt place piece rest.now e) }
+{
+    match piece {
+        Piece::Trivia { len, doc } => Ok((behind_trivia(place, front(rest, len), doc), len)),
+        Piece::Token { kind, len } => {
+            let word = front(rest, len);
+            list.push(token_of(alloc, place, kind, word)?)?;
+            Ok((behind_token(place, word), len))
+        }
+        Piece::Fault { kind, at } => Err(LexError::At {
+            offset: place.start + byte_len(front(rest, at)) as u32,
+            kind,
+        }),
+    }
+}
+
 /// The tokens of characters that begin at an offset of a file.
 fn lex_chars(
     alloc: Global,
@@ -63,38 +126,26 @@ fn lex_chars(
     edition: Edition,
     offset: u32,
     cs: &[char],
-) -> Result<List<Token>, LexError> {
+) -> Result<List<Token>, LexError>
+    requires fits { offset + byte_len cs.now < 2 ^ 31 }
+    ensures tokens { IfOk result (λ list. LexesFrom file edition offset cs.now list) }
+    ensures refused { IfErr result (λ e. RefusedFrom edition offset cs.now e) }
+{
     let mut list = List::new(alloc);
     let mut place = Place {
         file,
         edition,
         start: offset,
         doc: false,
+        dot: false,
     };
-    let mut dot = false;
     let mut at = 0usize;
     'pieces: while at < cs.len() {
         let rest = rest_from(cs, at);
-        match step(alloc, edition, dot, rest)? {
-            Piece::Trivia { len, doc } => {
-                place.doc = place.doc || doc;
-                place.start += byte_len(front(rest, len)) as u32;
-                dot = false;
-                at += len;
-            }
-            Piece::Token { kind, len } => {
-                let token = token_of(alloc, place, kind, front(rest, len))?;
-                place.start = token.span.end;
-                place.doc = false;
-                dot = is_same(front(rest, len), &['.']);
-                list.push(token)?;
-                at += len;
-            }
-            Piece::Fault { kind, at } => {
-                let offset = place.start + byte_len(front(rest, at)) as u32;
-                return Err(LexError::At { offset, kind });
-            }
-        }
+        let piece = step(alloc, edition, place.dot, rest)?;
+        let (next, len) = keep(alloc, &mut list, place, piece, rest)?;
+        place = next;
+        at += len;
     }
     Ok(list)
 }
