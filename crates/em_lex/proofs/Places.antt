@@ -20,7 +20,7 @@ use Rattle.em_lex.specs.Literals.{opening, closing, IsLiteral}
 use Rattle.em_lex.specs.Spelling.{Spells}
 use Rattle.em_lex.specs.Lexing.{Part, trivia, token, Tiles, byte_len, tokens_of, Lexes}
 use Rattle.em_lex.specs.Laws.{is_boundary, LiesIn, LieInOrder, TokensInText}
-use Rattle.em_lex.proofs.Base.{impossible}
+use Rattle.em_lex.proofs.LexingLemmas.{spells_some}
 
 -- ---- lengths in bytes
 
@@ -30,33 +30,6 @@ encoded_len (c ∷ cs) = length-append (encode_utf8 c) (encode_utf8_all cs) ∙ 
 
 pub byte_len-append : (cs ds : Chars) → byte_len (cs ++ ds) ≡ byte_len cs + byte_len ds
 byte_len-append cs ds = sum_by-append len_utf8 cs ds
-
--- ---- a token's spelling is not empty
-
-literal_some : (byte : Bool) (form : Form) (w value : Chars) → IsLiteral byte form w value → 0 < length w
-literal_some byte form w value lit = subst (λ x. 0 < length x) (sym lit.parts) (here byte form (lit.body ++ closing form))
-  where
-    here : (byte : Bool) (form : Form) (xs : Chars) → 0 < length (opening byte form ++ xs)
-    here true form xs = omega arith
-    here false Quoted xs = omega arith
-    here false Single xs = omega arith
-    here false (Raw n) xs = omega arith
-
-pub spells_some : (dot : Bool) (w : Chars) (kind : TokenKind) → Spells dot w kind → 0 < length w
-spells_some dot (c ∷ w) kind s = omega arith
-spells_some dot [] (Ident name true) s = subst (λ x. 0 < length x) (sym s.parts) (omega arith)
-spells_some dot [] (Ident name false) (i, n) = impossible i
-spells_some dot [] (Lifetime name) (w, is, h, n) = subst (λ x. 0 < length x) (sym is) (omega arith)
-spells_some dot [] (Int value suffix) s = impossible s.digit
-spells_some dot [] (Char value) lit = literal_some false Single [] (value ∷ []) lit
-spells_some dot [] (Byte value) lit = literal_some true Single [] (value ∷ []) lit
-spells_some dot [] (Str value) (vs, inl lit, is) = literal_some false Quoted [] vs lit
-spells_some dot [] (Str value) (vs, inr (n, lit), is) = literal_some false (Raw n) [] vs lit
-spells_some dot [] (ByteStr value) (inl lit) = literal_some true Quoted [] value lit
-spells_some dot [] (ByteStr value) (inr (n, lit)) = literal_some true (Raw n) [] value lit
-spells_some dot [] Open h = impossible h
-spells_some dot [] Close h = impossible h
-spells_some dot [] Punct h = impossible h
 
 -- ---- boundaries
 
