@@ -1,5 +1,6 @@
 pub mod Places
 pub mod MarkedText
+pub mod MarkedLooks
 pub mod Indices
 pub mod Base
 pub mod Values

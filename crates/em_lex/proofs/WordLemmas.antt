@@ -359,7 +359,7 @@ word_covers e dot (c ∷ v) rest i = whole (passed is_xid_continue (v ++ rest))
         (plain_covers ((c ∷ v) ++ rest) (c ∷ v) (c ∷ p.front) i (record { short = omega (arith, long); same = λ e. ap (λ x. c ∷ x) (same_front v p.front rest p.rest p.parts (omega (arith, e))).0 })))
 
 -- a character that begins a word is none that doesn't
-apart : (c d : ℕ) → is_start c ≡ true → is_start d ≡ false → (c == d) ≡ false
+pub apart : (c d : ℕ) → is_start c ≡ true → is_start d ≡ false → (c == d) ≡ false
 apart c d h k = by_test _ (c == d) (λ t. absurd (both_ways _ k (subst (λ x. is_start x ≡ true) (eqb-true c d t) h))) (λ t. t)
 
 -- `_` alone is found, unless a longer token or a fault is
