@@ -102,7 +102,7 @@ fault_some e dot text kind at (lifetime w c cs is h s none k a) = rw is (omega a
 
 -- ---- what stands there, and the step
 
-pub piece_of : Part → Piece
+abbrev pub piece_of : Part → Piece
 piece_of (trivia w doc) = Gap (length w) doc
 piece_of (token w kind) = Took kind (length w)
 
@@ -118,7 +118,6 @@ token_step e dot c cs w left kind parts t = here (step e dot (c ∷ cs)) (holds 
         ap (λ k. Took k n) (sym (same l)) ∙ ap (Took kind) (sym l)
 
 pub part_step : (e : Edition) (dot : Bool) (p : Part) (rest : Chars) → PartAt e dot p rest → step e dot (spelled p ++ rest) ≡ piece_of p
-unfolding piece_of
 part_step e dot (trivia w doc) rest t = trivia_step e dot w doc rest t
 part_step e dot (token [] kind) rest t = absurd (omega (arith, spells_some dot [] kind t.longest.spells))
 part_step e dot (token (c ∷ w) kind) rest t = token_step e dot c (w ++ rest) (c ∷ w) rest kind refl t
@@ -146,7 +145,6 @@ pub data Found (e : Edition) (dot : Bool) (text : Chars) : Piece → Type 0 wher
   fault : (kind : LexKind) (at : ℕ) → First e dot text kind at → Found e dot text (Bad kind at)
 
 pub found : (e : Edition) (dot : Bool) (c : ℕ) (cs : Chars) → Found e dot (c ∷ cs) (step e dot (c ∷ cs))
-unfolding piece_of
 found e dot c cs = here (step e dot (c ∷ cs)) refl (holds e dot c cs)
   where
     longest : (n : ℕ) (kind : TokenKind) → step e dot (c ∷ cs) ≡ Took kind n → (v rest : Chars) (other : TokenKind) → c ∷ cs ≡ v ++ rest → Spells dot v other → length v ≤ n
@@ -177,7 +175,6 @@ end_stuck e dot p rest parts at =
     let n = ap (λ x. length x) parts in omega (arith, s, l, n)
 
 not_fault : (p : Part) (kind : LexKind) (at : ℕ) → Told (piece_of p) kind at → ⊥
-unfolding piece_of
 not_fault (trivia w doc) kind at t = t
 not_fault (token w k) kind at t = t
 
@@ -195,7 +192,6 @@ record SamePart (p q : Part) (r s : Chars) : Type 0 where
   rest_is : r ≡ s
 
 same_part : (p q : Part) (r s : Chars) → spelled p ++ r ≡ spelled q ++ s → piece_of p ≡ piece_of q → SamePart p q r s
-unfolding piece_of
 same_part (trivia v a) (trivia w b) r s e k =
     let (n, d) = same_gap k in
     let (x, y) = same_front v w r s e n in

@@ -16,3 +16,5 @@ pub mod TriviaLemmas
 pub mod MarkLemmas
 pub mod StepLemmas
 pub mod LexingLemmas
+pub mod WalkLemmas
+pub mod TotalLemmas

@@ -41,6 +41,7 @@ struct Place {
 }
 
 /// The token of a word at a place.
+#[tactic(auto, using(crate::proofs::WalkLemmas::bytes))]
 fn token_of(
     alloc: Global,
     place: Place,
@@ -67,6 +68,7 @@ fn token_of(
 }
 
 /// The place behind trivia.
+#[tactic(auto, using(crate::proofs::WalkLemmas::bytes))]
 fn behind_trivia(place: Place, word: &[char], doc: bool) -> Place
     requires fits { place.start + byte_len word.now < 2 ^ 32 }
     ensures { result ≡ behind_trivia place (byte_len word.now) doc }
@@ -80,6 +82,7 @@ fn behind_trivia(place: Place, word: &[char], doc: bool) -> Place
 }
 
 /// The place behind a token.
+#[tactic(auto, using(crate::proofs::WalkLemmas::bytes))]
 fn behind_token(place: Place, word: &[char]) -> Place
     requires fits { place.start + byte_len word.now < 2 ^ 32 }
     ensures { result ≡ behind_token place (byte_len word.now) (bytes_eq word.now (46 ∷ [])) }
@@ -93,6 +96,7 @@ fn behind_token(place: Place, word: &[char]) -> Place
 }
 
 /// Puts the token of a piece at the end, if it is one, and gives the place behind the piece, and its length.
+#[tactic(auto, using(crate::proofs::WalkLemmas::bytes))]
 fn keep(
     alloc: Global,
     list: &mut List<Token>,
