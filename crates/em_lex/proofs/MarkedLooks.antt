@@ -46,10 +46,10 @@ looks_append (c ∷ w) l = same c (looks_append w l)
 true_false : true ≡ false → ⊥
 true_false h = impossible (sym h)
 
-bad_took : {at n : ℕ} {fault : LexKind} {kind : TokenKind} → Bad fault at ≡ Took kind n → ⊥
+pub bad_took : {at n : ℕ} {fault : LexKind} {kind : TokenKind} → Bad fault at ≡ Took kind n → ⊥
 bad_took e = cc
 
-same_took : {n m : ℕ} {a b : TokenKind} → Took a n ≡ Took b m → (n ≡ m) × (a ≡ b)
+pub same_took : {n m : ℕ} {a b : TokenKind} → Took a n ≡ Took b m → (n ≡ m) × (a ≡ b)
 same_took e = (cc, cc)
 
 -- ---- what the two texts begin with
@@ -61,11 +61,11 @@ start_continues c h = elim (or_cases (c == 95) (is_xid_start c) h) [
 ]
 
 -- no word begins where none goes on
-calm : (u : Chars) → starts is_xid_continue u ≡ false → starts is_start u ≡ false
+pub calm : (u : Chars) → starts is_xid_continue u ≡ false → starts is_start u ≡ false
 calm [] h = refl
 calm (c ∷ u) h = by_test _ (is_start c) (λ t. absurd (both_ways _ h (start_continues c t))) (λ t. t)
 
-starts_same : (p : ℕ → Bool) {u v : Chars} → Looks u v → starts is_start u ≡ false → starts p u ≡ starts p v
+pub starts_same : (p : ℕ → Bool) {u v : Chars} → Looks u v → starts is_start u ≡ false → starts p u ≡ starts p v
 starts_same p none h = refl
 starts_same p (same c l) h = refl
 starts_same p (word c s) h = absurd (both_ways _ h s)
@@ -85,7 +85,7 @@ letter_r = is_start-ascii 114 (omega arith)
 
 -- ---- words
 
-longer_word : (w : Chars) (d : ℕ) → is_word w ≡ true → is_xid_continue d ≡ true → is_identifier (w ++ d ∷ []) ≡ true
+pub longer_word : (w : Chars) (d : ℕ) → is_word w ≡ true → is_xid_continue d ≡ true → is_identifier (w ++ d ∷ []) ≡ true
 longer_word [] d h k = impossible h
 longer_word (c ∷ w) d h k =
     let a = and_parts (is_start c) (list_all is_xid_continue w) h in

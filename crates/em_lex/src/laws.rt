@@ -21,6 +21,7 @@ pub fn list_or_fault()
 {}
 
 /// The text of 2015 in which chosen words are raw has the same tokens in 2018, with those words raw and all places moved.
+#[tactic(auto, using(crate::proofs::Marked::marked_lexes))]
 pub fn marked_text_lexes()
     ensures { MarkedLexes }
 {}
