@@ -19,3 +19,4 @@ pub mod StepLemmas
 pub mod LexingLemmas
 pub mod WalkLemmas
 pub mod TotalLemmas
+pub mod TextLemmas

@@ -1,7 +1,7 @@
 -- The walk through a text, piece by piece.
 use Rattle.std.proofs.Common.{◌≡◌, ◌≢◌, ◌⊎◌, inl, inr, ℕ, zero, suc, ◌+◌, ◌-◌, ◌*◌, ◌<◌, ◌≤◌, Bool, true, false, not, cond, ◌&&◌, ◌||◌, ◌==◌, List, [], ◌∷◌, ◌++◌, length, take, drop, refl, sym, ap, ◌∙◌, subst, arith, length-append, append_assoc, append-nil, take-append-drop, length-drop, sum_by, encode_utf8_all}
 use Rattle.std.proofs.lemmas.Grind.{common_steps}
-use Rattle.std.proofs.lemmas.List.{length-take-le}
+use Rattle.std.proofs.lemmas.List.{drop-drop}
 use Rattle.std.proofs.lemmas.List.Sums.{sum_by-append}
 use Rattle.std.proofs.lemmas.Str.{len_utf8_bounds}
 use Rattle.std.specs.Char.{len_utf8}
@@ -167,5 +167,42 @@ so_far-fails file e offset text out place piece rest (At o kind) far f r =
 pub found_at : (e : Edition) (dot : Bool) (rest : Chars) (piece : Piece) → 0 < length rest → piece ≡ step e dot rest → Found e dot rest piece
 found_at e dot [] piece some is = absurd (omega (arith, some))
 found_at e dot (c ∷ cs) piece some is = subst (Found e dot (c ∷ cs)) (sym is) (found e dot c cs)
+
+-- ---- in a loop over indices
+
+rest_some : (cs rest : Chars) (at : ℕ) → at < length cs → rest ≡ drop at cs → 0 < length rest
+rest_some cs rest at h is = let l = ap (λ x. length x) is ∙ length-drop at cs in omega (arith, l, h)
+
+pub walk_found : (e : Edition) (place : Place) (cs rest : Chars) (at : ℕ) (piece : Piece) → at < length cs → rest ≡ drop at cs → piece ≡ step e place.dot rest → Found e place.dot rest piece
+walk_found e place cs rest at piece h is s = found_at e place.dot rest piece (rest_some cs rest at h is) s
+
+pub walk_within : (e : Edition) (place : Place) (cs rest : Chars) (at : ℕ) (piece : Piece) → at < length cs → rest ≡ drop at cs → piece ≡ step e place.dot rest → piece_within piece rest
+walk_within e place cs rest at piece h is s = found_within e place.dot rest piece (walk_found e place cs rest at piece h is s)
+
+pub record More (file : ℕ) (e : Edition) (offset : ℕ) (cs : Chars) (at : ℕ) (new : List Token) (next : Place) (len : ℕ) : Type 0 where
+  pub far : SoFar file e offset cs new next (drop (at + len) cs)
+  pub within : at + len ≤ length cs
+  pub some : 0 < len
+
+drop_drop : (len at : ℕ) (cs : Chars) → drop len (drop at cs) ≡ drop (at + len) cs
+drop_drop len at cs = drop-drop len at cs
+
+pub walk_more : (file : ℕ) (e : Edition) (offset : ℕ) (cs rest : Chars) (at : ℕ) (out new : List Token) (place next : Place) (piece : Piece) (len : ℕ) → SoFar file e offset cs out place (drop at cs) → at < length cs → rest ≡ drop at cs → piece ≡ step e place.dot rest → Kept out new place piece rest next len
+    → More file e offset cs at new next len
+walk_more file e offset cs rest at out new place next piece len far h is s k =
+    let (moved, some, fits) = so_far-next file e offset cs out new place next piece rest len (subst (SoFar file e offset cs out place) (sym is) far) (walk_found e place cs rest at piece h is s) k in
+    let l = ap (λ x. length x) is ∙ length-drop at cs in
+    record { far = subst (SoFar file e offset cs new next) (ap (drop len) is ∙ drop_drop len at cs) moved; within = omega (arith, l, fits, h); some = some }
+
+pub walk_fails : (file : ℕ) (e : Edition) (offset : ℕ) (cs rest : Chars) (at : ℕ) (out : List Token) (place : Place) (piece : Piece) (error : LexError) → SoFar file e offset cs out place (drop at cs) → at < length cs → rest ≡ drop at cs → piece ≡ step e place.dot rest → RefusedAt place piece rest error
+    → RefusedFrom e offset cs error
+walk_fails file e offset cs rest at out place piece error far h is s r =
+    so_far-fails file e offset cs out place piece rest error (subst (SoFar file e offset cs out place) (sym is) far) (walk_found e place cs rest at piece h is s) r
+
+pub walk_fits : (file : ℕ) (e : Edition) (offset : ℕ) (cs rest : Chars) (at : ℕ) (out : List Token) (place : Place) → SoFar file e offset cs out place (drop at cs) → rest ≡ drop at cs → place.start + byte_len rest ≡ offset + byte_len cs
+walk_fits file e offset cs rest at out place far is = (subst (SoFar file e offset cs out place) (sym is) far).place_is
+
+pub walk_done : (file : ℕ) (e : Edition) (offset : ℕ) (cs : Chars) (at : ℕ) (out : List Token) (place : Place) → SoFar file e offset cs out place (drop at cs) → length cs ≤ at → LexesFrom file e offset cs out
+walk_done file e offset cs at out place far h = so_far-done file e offset cs out place (drop at cs) far (let l = length-drop at cs in omega (arith, l, h))
 
 pub ruleset bytes = (length-byte_len, byte_len-take)

@@ -1,5 +1,5 @@
 -- How the code walks through a text. No definition of what a token or a fault is rests on this.
-use Rattle.std.specs.Prelude.{◌≡◌, ◌<◌, ◌≤◌, ◌⊎◌, ℕ, ◌+◌, Bool, true, false, ◌||◌, List, [], ◌∷◌, ◌++◌, length, take, encode_utf8_all}
+use Rattle.std.specs.Prelude.{◌≡◌, ◌<◌, ◌≤◌, ◌⊎◌, ℕ, ◌+◌, Bool, true, false, ◌||◌, ◌==◌, slice_index, if◌then◌else◌, List, [], ◌∷◌, ◌++◌, length, take, encode_utf8_all}
 use Rattle.std.specs.Str.{bytes_eq}
 use Rattle.em_base.specs.declared.edition.Edition.{Edition}
 use Rattle.em_base.specs.declared.token.Token.{Token}
@@ -12,7 +12,7 @@ use Rattle.em_lex.specs.declared.piece.Piece.TheVariants.{Trivia, Token as Took,
 use Rattle.em_lex.specs.declared.lexer.Place.{Place}
 use Rattle.em_lex.specs.Characters.{Chars}
 use Rattle.em_lex.specs.Faults.{First}
-use Rattle.em_lex.specs.Lexing.{Part, Tiles, byte_len, tokens_of}
+use Rattle.em_lex.specs.Lexing.{Part, Tiles, byte_len, tokens_of, Fails}
 
 abbrev pub token_at : ℕ → Edition → ℕ → Bool → TokenKind → Chars → Token
 token_at file edition start doc kind w = record {
@@ -73,3 +73,13 @@ abbrev pub RefusedFrom : Edition → ℕ → Chars → LexError → Type 0
 RefusedFrom edition offset text NoMemory = Unit {0}
 RefusedFrom edition offset text (At place kind) = FailsFrom edition offset text place kind
 RefusedFrom edition offset text (Limit l) = ⊥
+
+-- how many characters a byte order mark in front is
+abbrev pub mark_len : Chars → ℕ
+mark_len cs = if slice_index cs 0 == 0xFEFF then 1 else 0
+
+-- a text that is UTF-8 is refused at its first fault
+abbrev pub RefusedText : Edition → List ℕ → LexError → Type 0
+RefusedText edition bytes NoMemory = Unit {0}
+RefusedText edition bytes (At place kind) = Fails edition bytes kind place
+RefusedText edition bytes (Limit l) = ⊥

@@ -3,7 +3,7 @@ ghost use Rattle.std.specs.Prelude.{[], ◌∷◌};
 ghost use Rattle.std.specs.Str.{bytes_eq};
 ghost use Rattle.em_lex.specs.Lexing.{Lexes, byte_len};
 ghost use Rattle.em_lex.specs.Answers.{Refused, most};
-ghost use Rattle.em_lex.specs.Walk.{token_at, behind_trivia, behind_token, piece_within, Kept, RefusedAt, LexesFrom, RefusedFrom};
+ghost use Rattle.em_lex.specs.Walk.{token_at, behind_trivia, behind_token, piece_within, Kept, RefusedAt, LexesFrom, RefusedFrom, mark_len, RefusedText};
 
 use crate::characters::{char_at, front, is_same, text_of};
 use crate::counter::Lexings;
@@ -160,6 +160,32 @@ fn chars_of(alloc: Global, text: &str) -> Result<Vec<char>, NoMemory>
     Ok(text.chars().collect(alloc)?)
 }
 
+/// How many characters a byte order mark in front is.
+fn mark_len(cs: &[char]) -> usize
+    ensures mark { result ≡ mark_len cs.now }
+    ensures within { result ≤ length cs.now }
+{
+    if char_at(cs, 0) == '\u{feff}' { 1 } else { 0 }
+}
+
+/// The tokens of a text.
+fn lex_text(
+    alloc: Global,
+    file: u32,
+    edition: Edition,
+    text: &str,
+) -> Result<Tokens, LexError>
+    requires { length text.now ≤ most }
+    ensures tokens { IfOk result (λ tokens. Lexes file edition text.now tokens.list) }
+    ensures refused { IfErr result (λ e. RefusedText edition text.now e) }
+{
+    let cs = chars_of(alloc, text)?;
+    let mark = mark_len(&cs);
+    let start = byte_len(front(&cs, mark)) as u32;
+    let list = lex_chars(alloc, file, edition, start, rest_from(&cs, mark))?;
+    Ok(Tokens { list })
+}
+
 /// The tokens of a text of a file, under an edition.
 ///
 /// `Ok` gives the tokens of the whole text, with their values, their spans in bytes, and whether a doc comment stands
@@ -182,18 +208,11 @@ pub fn lex(
     if bytes.len() > MOST {
         return Err(LexError::Limit(Limit::FileBytes));
     }
-    let text = match std::str::from_utf8(bytes) {
-        Ok(text) => text,
-        Err(error) => {
-            return Err(LexError::At {
-                offset: error.valid_up_to() as u32,
-                kind: LexKind::NotUtf8,
-            });
-        }
-    };
-    let cs = chars_of(alloc, text)?;
-    let mark = if char_at(&cs, 0) == '\u{feff}' { 1 } else { 0 };
-    let start = byte_len(front(&cs, mark)) as u32;
-    let list = lex_chars(alloc, file, edition, start, rest_from(&cs, mark))?;
-    Ok(Tokens { list })
+    match std::str::from_utf8(bytes) {
+        Ok(text) => lex_text(alloc, file, edition, text),
+        Err(error) => Err(LexError::At {
+            offset: error.valid_up_to() as u32,
+            kind: LexKind::NotUtf8,
+        }),
+    }
 }
