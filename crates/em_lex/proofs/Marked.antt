@@ -23,10 +23,10 @@ use Rattle.em_lex.specs.Scan.{step}
 use Rattle.em_lex.proofs.Base.{impossible, by_test, any_of, same_front, no_start}
 use Rattle.em_lex.proofs.WordLemmas.{apart}
 use Rattle.em_lex.proofs.MarkLemmas.{Apart, punct_apart, open_apart, close_apart, Shape, under, one, two, three, shape_of}
-use Rattle.em_lex.proofs.LexingLemmas.{spells_some, part_step, Found, part, fault}
+use Rattle.em_lex.proofs.LexingLemmas.{no_gap, no_bad, same_took, spells_some, part_step, Found, part, fault}
 use Rattle.em_lex.proofs.WalkLemmas.{found_at}
 use Rattle.em_lex.proofs.MarkedText.{all_of, Raises, ends, keeps, lifts, raised, raised_raises, marked_text, moved_tokens, scalars_marked}
-use Rattle.em_lex.proofs.MarkedLooks.{Looks, none, same, word, looks_append, bad_took, same_took, calm, starts_same, NoLonger, longer_word, word_stops, word_kept, raw_found, raw_kept, lifetime_kept, number_kept, literal_kept, mark_kept}
+use Rattle.em_lex.proofs.MarkedLooks.{Looks, none, same, word, looks_append, calm, starts_same, NoLonger, longer_word, word_stops, word_kept, raw_found, raw_kept, lifetime_kept, number_kept, literal_kept, mark_kept}
 
 -- ---- trivia
 
@@ -82,16 +82,13 @@ trivia_kept w doc u v (block cs is within d) l = block cs is (comment_kept cs u 
 
 -- ---- tokens
 
-gap_took : {n m : ℕ} {doc : Bool} {kind : TokenKind} → Gap n doc ≡ Took kind m → ⊥
-gap_took e = cc
-
 -- where the step finds a token, it stands
 token_at : (e : Edition) (dot : Bool) (w v : Chars) (kind : TokenKind) → 0 < length w → step e dot (w ++ v) ≡ Took kind (length w) → TokenAt e dot w v kind
 token_at e dot w v kind some is = here (found_at e dot (w ++ v) (Took kind (length w)) (let l = length-append w v in omega (arith, l, some)) (sym is)) refl
   where
     here : {p : Piece} → Found e dot (w ++ v) p → p ≡ Took kind (length w) → TokenAt e dot w v kind
-    here (fault k at f) q = absurd (bad_took q)
-    here (part (trivia x doc) rest parts t) q = absurd (gap_took q)
+    here (fault k at f) q = absurd (no_bad q)
+    here (part (trivia x doc) rest parts t) q = absurd (no_gap q)
     here (part (token x k) rest parts t) q =
         let (n, kind_is) = same_took q in
         let (a, b) = same_front x w rest v (sym parts) n in

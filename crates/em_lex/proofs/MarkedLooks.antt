@@ -27,11 +27,12 @@ use Rattle.em_lex.specs.Spelling.{Spells, IsRawWord, is_never_raw}
 use Rattle.em_lex.specs.Faults.{NumberAt}
 use Rattle.em_lex.specs.Scan.{first, run, starts_word, is_none, some_if, single_len, close_len, Reading, read, literal_read, literal_closed, literal_kind, literal_step, lifetime_step, quote_step, not_raw, plain_word, prefixed, raw_word, hash_step, word_before, word_step, value_from, suffix_of, point_at, float_tail, number_end, is_punct1, is_punct2, is_punct3, punct_len, is_open, is_close, mark_step, step}
 use Rattle.em_lex.proofs.Base.{impossible, by_test, pick, both, not_true, or_false, Passed, passed, same_front, same_text, no_start, no_continue, is_start-ascii}
-use Rattle.em_lex.proofs.Heads.{Mark, step_word, step_single, step_mark}
+use Rattle.em_lex.proofs.Heads.{Mark, r_starts, step_word, step_single, step_mark}
 use Rattle.em_lex.proofs.LiteralLemmas.{literal_found}
-use Rattle.em_lex.proofs.WordLemmas.{Far, literal_far, hash_far, name_free, apart, word_ends, raw_is, lifetime_is, quote_if}
+use Rattle.em_lex.proofs.WordLemmas.{true_false, Far, literal_far, hash_far, name_free, apart, word_ends, raw_is, lifetime_is, quote_if}
 use Rattle.em_lex.proofs.NumberLemmas.{number_cut, number_at, Whole, whole_number}
 use Rattle.em_lex.proofs.MarkLemmas.{Apart}
+use Rattle.em_lex.proofs.LexingLemmas.{no_bad, same_took}
 
 -- texts that are the same up to where a word begins in the one and `r#` in the other
 pub data Looks : Chars → Chars → Type 0 where
@@ -42,15 +43,6 @@ pub data Looks : Chars → Chars → Type 0 where
 pub looks_append : (w : Chars) {u v : Chars} → Looks u v → Looks (w ++ u) (w ++ v)
 looks_append [] l = l
 looks_append (c ∷ w) l = same c (looks_append w l)
-
-true_false : true ≡ false → ⊥
-true_false h = impossible (sym h)
-
-pub bad_took : {at n : ℕ} {fault : LexKind} {kind : TokenKind} → Bad fault at ≡ Took kind n → ⊥
-bad_took e = cc
-
-pub same_took : {n m : ℕ} {a b : TokenKind} → Took a n ≡ Took b m → (n ≡ m) × (a ≡ b)
-same_took e = (cc, cc)
 
 -- ---- what the two texts begin with
 
@@ -79,9 +71,6 @@ first_test : (k : ℕ) {u v : Chars} → Looks u v → is_start k ≡ false → 
 first_test k none h r = refl
 first_test k (same c l) h r = refl
 first_test k (word c s) h r = apart c k s h ∙ sym r
-
-letter_r : is_start 114 ≡ true
-letter_r = is_start-ascii 114 (omega arith)
 
 -- ---- words
 
@@ -163,7 +152,7 @@ raw_at : (e : Edition) (dot : Bool) (c : ℕ) (cs : Chars) → is_start c ≡ tr
 raw_at e dot c cs h =
     let no_hash : (c == 35) ≡ false = apart c 35 h (no_start 35 (omega arith) refl) in
     let no_quote : (c == 34) ≡ false = apart c 34 h (no_start 34 (omega arith) refl) in
-    step_word e dot 114 (35 ∷ c ∷ cs) letter_r ∙ word_ends e 114 [] (35 ∷ c ∷ cs) refl (no_continue 35 (omega arith) refl) ∙ (rw (no_hash, no_quote))
+    step_word e dot 114 (35 ∷ c ∷ cs) r_starts ∙ word_ends e 114 [] (35 ∷ c ∷ cs) refl (no_continue 35 (omega arith) refl) ∙ (rw (no_hash, no_quote))
 
 pub raw_found : (e : Edition) (dot : Bool) (x r : Chars) (name : List ℕ) → is_identifier x ≡ true → name ≡ name_of x → is_never_raw name ≡ false → starts is_xid_continue r ≡ false
     → step e dot ((114 ∷ 35 ∷ x) ++ r) ≡ Took (Ident name true) (length (114 ∷ 35 ∷ x))
@@ -190,7 +179,7 @@ raw_stops e dot (c ∷ w) u kind i is = whole (passed is_xid_continue (w ++ u))
         (λ t e. let n = (same_took e).0 in
         let l : length p.front ≡ length w = omega (arith, n) in
         subst (λ x. starts is_xid_continue x ≡ false) (same_front p.front w p.rest u (sym p.parts) l).1 p.ends)
-        (λ t e. absurd (bad_took e))
+        (λ t e. absurd (no_bad e))
         (sym (raw_at e dot c (w ++ u) b.0 ∙ ap (λ xs. raw_word (c ∷ xs)) p.parts ∙ raw_is c p.front p.rest p.all p.ends) ∙ is)
 
 pub raw_kept : (dot : Bool) (w u v : Chars) (name : List ℕ) → IsRawWord w name → Looks u v → step E2015 dot (w ++ u) ≡ Took (Ident name true) (length w) → step E2018 dot (w ++ v) ≡ Took (Ident name true) (length w)
@@ -208,11 +197,11 @@ letter_not cs name n = here (close_len false Single cs)
   where
     reads : (body : Chars) (len : ℕ) (r : Reading) (o : Option ℕ) → literal_read false Single 1 body len r o ≡ Took (Lifetime name) n → ⊥
     reads body len r None e = cc
-    reads body len r (Some p) e = bad_took e
+    reads body len r (Some p) e = no_bad e
 
     here : (o : Option ℕ) → literal_closed false Single 1 cs o ≡ Took (Lifetime name) n → ⊥
-    here None e = bad_took e
-    here (Some k) e = pick (λ q. q ≡ Took (Lifetime name) n → ⊥) (starts_word (drop (k + 1) cs)) _ _ (λ t e. bad_took e) (λ t e. reads (take k cs) (1 + (k + 1)) (read false Single 0 (take k cs)) (read false Single 0 (take k cs)).bad e) e
+    here None e = no_bad e
+    here (Some k) e = pick (λ q. q ≡ Took (Lifetime name) n → ⊥) (starts_word (drop (k + 1) cs)) _ _ (λ t e. no_bad e) (λ t e. reads (take k cs) (1 + (k + 1)) (read false Single 0 (take k cs)) (read false Single 0 (take k cs)).bad e) e
 
 single_at : (c : ℕ) (x : Chars) → (c == 92) ≡ false → single_len false (c ∷ x) ≡ some_if (first x == 39 && not (c == 39 || c == 10 || c == 9)) 1
 unfolding single_len
@@ -250,7 +239,7 @@ lifetime_kept dot (c ∷ w) u v name h n s l is =
     old : Old
     old =
         quote_if (c ∷ (w ++ u)) (λ q. q ≡ Took (Lifetime name) (length (39 ∷ c ∷ w)) → Old)
-        (λ t e. (t, by_test _ (first u == 39 || first u == 35) (λ f. absurd (bad_took (sym (lifetime_is c w u a.1 s ∙ ap (λ (x : Bool). cond x (Bad BadLifetime 0) (Took (Lifetime (name_of (c ∷ w))) (1 + length (c ∷ w)))) f) ∙ e))) (λ f. f)))
+        (λ t e. (t, by_test _ (first u == 39 || first u == 35) (λ f. absurd (no_bad (sym (lifetime_is c w u a.1 s ∙ ap (λ (x : Bool). cond x (Bad BadLifetime 0) (Took (Lifetime (name_of (c ∷ w))) (1 + length (c ∷ w)))) f) ∙ e))) (λ f. f)))
         (λ t e. absurd (letter_not (c ∷ (w ++ u)) name (length (39 ∷ c ∷ w)) e))
         (sym (step_single E2015 dot (c ∷ (w ++ u))) ∙ is)
 
@@ -285,11 +274,11 @@ number_before dot w part tail point =
 number_len : (dot : Bool) (w part tail : Chars) (point : Bool) (kind : TokenKind) (n : ℕ) → number_before dot w part tail point ≡ Took kind n → length w ≡ n
 number_len dot w part tail point kind n =
     pick (λ q. q ≡ Took kind n → length w ≡ n) (not dot && (base_of dot w == 10) && (first tail == 101 || first tail == 69 || bytes_eq tail (codes "f32") || bytes_eq tail (codes "f64") || (bytes_eq tail [] && point))) _ _
-    (λ t e. absurd (bad_took e)) (λ t. here (value_from (base_of dot w) false 0 part) (suffix_of dot tail))
+    (λ t e. absurd (no_bad e)) (λ t. here (value_from (base_of dot w) false 0 part) (suffix_of dot tail))
   where
     here : (o : Option ℕ) (s : Option (Option IntKind)) → number_end (length w) o s ≡ Took kind n → length w ≡ n
-    here None s e = absurd (bad_took e)
-    here (Some value) None e = absurd (bad_took e)
+    here None s e = absurd (no_bad e)
+    here (Some value) None e = absurd (no_bad e)
     here (Some value) (Some s) e = (same_took e).0
 
 number_whole : (dot : Bool) (w u : Chars) (kind : TokenKind) → starts is_ascii_digit w ≡ true → step E2015 dot (w ++ u) ≡ Took kind (length w) → NumberAt (w ++ u) w u
@@ -317,7 +306,7 @@ number_kept dot w u v value suffix i l is =
 pub literal_kept : (dot byte : Bool) (form : Form) (w value u v : Chars) (kind : TokenKind) → IsLiteral byte form w value → Looks u v → step E2015 dot (w ++ u) ≡ Took kind (length w) → step E2018 dot (w ++ v) ≡ Took kind (length w)
 literal_kept dot byte form w value u v kind lit l is =
     let old = sym (literal_found E2015 dot byte form w value u lit) ∙ is in
-    let quiet : starts is_start u ≡ false = by_test _ (starts is_start u) (λ t. absurd (bad_took (sym (ap (λ (x : Bool). cond x (Bad LiteralSuffix 0) (Took (literal_kind byte form value) (length w))) t) ∙ old))) (λ t. t) in
+    let quiet : starts is_start u ≡ false = by_test _ (starts is_start u) (λ t. absurd (no_bad (sym (ap (λ (x : Bool). cond x (Bad LiteralSuffix 0) (Took (literal_kind byte form value) (length w))) t) ∙ old))) (λ t. t) in
     literal_found E2018 dot byte form w value v lit
     ∙ ap (λ (x : Bool). cond x (Bad LiteralSuffix 0) (Took (literal_kind byte form value) (length w))) (sym (starts_same is_start l quiet)) ∙ old
 
@@ -370,8 +359,8 @@ punct_same a (same d l) = behind l
     behind : {x y : Chars} → Looks x y → punct_len a d (first x) ≡ punct_len a d (first y)
     behind none = refl
     behind (same f l) = refl
-    behind (word f s) = two_marks a d f (outside f s) ∙ sym (two_marks a d 114 (outside 114 letter_r))
-punct_same a (word {x} c s) = one_mark a c (get_or x 0 0) (outside c s) ∙ sym (one_mark a 114 35 (outside 114 letter_r))
+    behind (word f s) = two_marks a d f (outside f s) ∙ sym (two_marks a d 114 (outside 114 r_starts))
+punct_same a (word {x} c s) = one_mark a c (get_or x 0 0) (outside c s) ∙ sym (one_mark a 114 35 (outside 114 r_starts))
 
 mark_same : (a : ℕ) {u v : Chars} → Looks u v → mark_step (a ∷ u) ≡ mark_step (a ∷ v)
 unfolding mark_step

@@ -17,7 +17,9 @@ use Rattle.em_lex.specs.Spelling.{is_never_raw}
 use Rattle.em_lex.specs.Lexing.{Part, trivia, token, spelled, Tiles, byte_len, tokens_of}
 use Rattle.em_lex.specs.Marking.{respelled, growth, raw_kind, moved_token, moved, marked, HasRawForm}
 use Rattle.em_lex.proofs.Base.{both}
-use Rattle.em_lex.proofs.Places.{token_is, encoded_len, byte_len-append}
+use Rattle.em_lex.proofs.Places.{token_is}
+use Rattle.em_lex.proofs.WalkLemmas.{byte_len-append}
+use Rattle.em_lex.proofs.TextLemmas.{encodes-byte_len}
 
 -- ---- the parts
 
@@ -77,8 +79,8 @@ cut_marked : (chosen : Token → Bool) (file at : ℕ) (doc : Bool) (gap w rest 
     ≡ encode_utf8_all gap ++ (encode_utf8_all (respelt (chosen (token_is file E2015 (at + byte_len gap) doc w kind)) w) ++ marked chosen (at + byte_len gap + byte_len w) (encode_utf8_all rest) ts)
 cut_marked chosen file at doc gap w rest kind ts =
     let t : Token = token_is file E2015 (at + byte_len gap) doc w kind in
-    let g = encoded_len gap in
-    let l = encoded_len w in
+    let g = encodes-byte_len gap in
+    let l = encodes-byte_len w in
     let before : at + byte_len gap - at ≡ length (encode_utf8_all gap) = omega (arith, g) in
     let both_len : length (encode_utf8_all gap ++ encode_utf8_all w) ≡ length (encode_utf8_all gap) + length (encode_utf8_all w) = length-append (encode_utf8_all gap) (encode_utf8_all w) in
     let through : length (encode_utf8_all gap ++ encode_utf8_all w) ≡ at + byte_len gap + byte_len w - at = omega (arith, both_len, g, l) in

@@ -7,7 +7,7 @@ use Rattle.std.proofs.lemmas.Grind.{common_steps}
 use Rattle.std.proofs.lemmas.Bool.{and_parts}
 use Rattle.std.proofs.lemmas.Bool.Decides.{nat_tests}
 use Rattle.std.proofs.lemmas.List.{take_at, drop_at}
-use Rattle.std.proofs.lemmas.List.Sums.{sum_by-append, sum_by-cons}
+use Rattle.std.proofs.lemmas.List.Sums.{sum_by-cons}
 use Rattle.std.proofs.lemmas.Str.{encodes-append, length-encode, len_utf8_bounds, length-le-encodes, IsCharBoundary-at_seam}
 use Rattle.em_base.specs.declared.edition.Edition.{Edition}
 use Rattle.em_base.specs.declared.token.Token.{Token}
@@ -21,15 +21,8 @@ use Rattle.em_lex.specs.Spelling.{Spells}
 use Rattle.em_lex.specs.Lexing.{Part, trivia, token, Tiles, byte_len, tokens_of, Lexes}
 use Rattle.em_lex.specs.Laws.{is_boundary, LiesIn, LieInOrder, TokensInText}
 use Rattle.em_lex.proofs.LexingLemmas.{spells_some}
-
--- ---- lengths in bytes
-
-pub encoded_len : (cs : Chars) → length (encode_utf8_all cs) ≡ byte_len cs
-encoded_len [] = refl
-encoded_len (c ∷ cs) = length-append (encode_utf8 c) (encode_utf8_all cs) ∙ (let a = length-encode c in let b = encoded_len cs in let d = sum_by-cons len_utf8 c cs in omega (arith, a, b, d))
-
-pub byte_len-append : (cs ds : Chars) → byte_len (cs ++ ds) ≡ byte_len cs + byte_len ds
-byte_len-append cs ds = sum_by-append len_utf8 cs ds
+use Rattle.em_lex.proofs.WalkLemmas.{byte_len-append}
+use Rattle.em_lex.proofs.TextLemmas.{encodes-byte_len}
 
 -- ---- boundaries
 
@@ -49,7 +42,7 @@ uncut bs i (within, lead) = here (get_or bs i 0) (λ h. past_end bs i h) lead
 -- a place between characters
 boundary_at : (xs ys : Chars) → all_scalars (xs ++ ys) ≡ true → is_boundary (encode_utf8_all (xs ++ ys)) (byte_len xs) ≡ true
 boundary_at xs ys h =
-    subst (λ n. is_boundary (encode_utf8_all (xs ++ ys)) n ≡ true) (encoded_len xs)
+    subst (λ n. is_boundary (encode_utf8_all (xs ++ ys)) n ≡ true) (encodes-byte_len xs)
     (uncut (encode_utf8_all (xs ++ ys)) (length (encode_utf8_all xs))
     (IsCharBoundary-at_seam (encode_utf8_all (xs ++ ys)) (encode_utf8_all xs) (encode_utf8_all ys) (encodes-append xs ys) (ys, (scalars_behind xs ys h, refl))))
 
@@ -70,8 +63,8 @@ token_is file edition start doc w kind = record {
 lies_in : (file : ℕ) (edition : Edition) (at : ℕ) (doc : Bool) (front w rest : Chars) (kind : TokenKind) → at ≤ byte_len front → 0 < length w → all_scalars (front ++ (w ++ rest)) ≡ true
     → LiesIn file edition at (encode_utf8_all (front ++ (w ++ rest))) (token_is file edition (byte_len front) doc w kind)
 lies_in file edition at doc front w rest kind le some scalars =
-    let fl = encoded_len front in
-    let wl = encoded_len w in
+    let fl = encodes-byte_len front in
+    let wl = encodes-byte_len w in
     let most = length-le-encodes w in
     let cut : encode_utf8_all (front ++ (w ++ rest)) ≡ encode_utf8_all front ++ (encode_utf8_all w ++ encode_utf8_all rest) = encodes-append front (w ++ rest) ∙ ap (λ x. encode_utf8_all front ++ x) (encodes-append w rest) in
     let all : length (encode_utf8_all (front ++ (w ++ rest))) ≡ length (encode_utf8_all front) + length (encode_utf8_all w ++ encode_utf8_all rest) = ap (λ x. length x) cut ∙ length-append (encode_utf8_all front) (encode_utf8_all w ++ encode_utf8_all rest) in

@@ -70,7 +70,7 @@ quoted_single e = cc
 raw_single : {n : ℕ} → ◌≡◌ {A = Form} (Raw n) Single → ⊥
 raw_single e = cc
 
-true_false : true ≡ false → ⊥
+pub true_false : true ≡ false → ⊥
 true_false e = impossible (sym e)
 
 reserved34 : (w : Chars) → bytes_eq w (codes "b") ≡ false → bytes_eq w (codes "r") ≡ false → bytes_eq w (codes "br") ≡ false → is_reserved w 34 ≡ true
