@@ -1,28 +1,27 @@
 -- The text with chosen words raw has the moved tokens.
-use Rattle.std.proofs.Common.{◌≡◌, ◌⊎◌, inl, inr, ℕ, zero, suc, ◌+◌, ◌<◌, ◌≤◌, Bool, true, false, not, ◌&&◌, ◌||◌, ◌==◌, List, [], ◌∷◌, ◌++◌, length, codes, encode_utf8_all, refl, subst, sym, ap, ◌∙◌, arith, length-append, append_assoc}
+use Rattle.std.proofs.Common.{◌≡◌, ◌⊎◌, inl, inr, ℕ, ◌<◌, Bool, true, false, not, ◌&&◌, ◌||◌, ◌==◌, List, [], ◌∷◌, ◌++◌, length, encode_utf8_all, refl, subst, sym, ap, ◌∙◌, arith, length-append, append_assoc}
 use Rattle.std.specs.Prelude.{All}
 use Rattle.std.specs.Str.{all_scalars, bytes_eq}
-use Rattle.std.proofs.lemmas.Bool.{and_parts, both_ways, or_cases}
+use Rattle.std.proofs.lemmas.Bool.{and_parts, both_ways}
 use Rattle.unicode_ident.specs.Ident.{is_xid_continue}
 use Rattle.em_base.specs.Names.{is_start, is_word, is_identifier}
 use Rattle.em_base.specs.declared.edition.Edition.{Edition}
 use Rattle.em_base.specs.declared.edition.Edition.TheVariants.{E2015, E2018}
-use Rattle.em_base.specs.declared.token.Token.{Token}
 use Rattle.em_base.specs.declared.token.TokenKind.{TokenKind}
 use Rattle.em_base.specs.declared.token.TokenKind.TheVariants.{Ident, Lifetime, Int, Char, Byte, Str, ByteStr, Open, Close, Punct}
 use Rattle.em_lex.specs.declared.piece.Form.TheVariants.{Quoted, Single, Raw}
 use Rattle.em_lex.specs.declared.piece.Piece.{Piece}
-use Rattle.em_lex.specs.declared.piece.Piece.TheVariants.{Trivia as Gap, Token as Took}
+use Rattle.em_lex.specs.declared.piece.Piece.TheVariants.{Token as Took}
 use Rattle.em_lex.specs.Characters.{Chars, starts, not_line_feed, name_of}
 use Rattle.em_lex.specs.Trivia.{is_comment_mark, Within, closes, lowers, raises, passes, IsTrivia, blank, line, block, begins_comment}
-use Rattle.em_lex.specs.Spelling.{Spells, is_never_raw, is_among, opening_delimiters, closing_delimiters, punctuation}
-use Rattle.em_lex.specs.Lexing.{Part, trivia, token, spelled, is_dot, TokenAt, Tiles, byte_len, tokens_of, Lexes}
+use Rattle.em_lex.specs.Spelling.{Spells, is_never_raw, opening_delimiters, closing_delimiters}
+use Rattle.em_lex.specs.Lexing.{Part, trivia, token, spelled, is_dot, TokenAt, Tiles, byte_len, tokens_of}
 use Rattle.em_lex.specs.Marking.{moved, marked, HasRawForm}
 use Rattle.em_lex.specs.Laws.{MarkedLexes}
 use Rattle.em_lex.specs.Scan.{step}
 use Rattle.em_lex.proofs.Base.{impossible, by_test, any_of, same_front, no_start}
 use Rattle.em_lex.proofs.WordLemmas.{apart}
-use Rattle.em_lex.proofs.MarkLemmas.{Apart, punct_apart, open_apart, close_apart, Shape, under, one, two, three, shape_of}
+use Rattle.em_lex.proofs.MarkLemmas.{punct_apart, open_apart, close_apart, Shape, under, one, two, three, shape_of}
 use Rattle.em_lex.proofs.LexingLemmas.{no_gap, no_bad, same_took, spells_some, part_step, Found, part, fault}
 use Rattle.em_lex.proofs.WalkLemmas.{found_at}
 use Rattle.em_lex.proofs.MarkedText.{all_of, Raises, ends, keeps, lifts, raised, raised_raises, marked_text, moved_tokens, scalars_marked}

@@ -1,5 +1,5 @@
 -- A token stays one where the text behind it changes from a word on.
-use Rattle.std.proofs.Common.{◌≡◌, ◌⊎◌, inl, inr, ℕ, zero, suc, ◌+◌, ◌-◌, ◌<◌, ◌≤◌, Bool, true, false, not, cond, ◌&&◌, ◌||◌, ◌==◌, List, [], ◌∷◌, ◌++◌, length, take, drop, get_or, codes, Option, Some, None, refl, subst, sym, ap, ◌∙◌, arith, length-append, append_assoc}
+use Rattle.std.proofs.Common.{◌≡◌, inl, inr, ℕ, ◌+◌, ◌<◌, ◌≤◌, Bool, true, false, not, cond, ◌&&◌, ◌||◌, ◌==◌, List, [], ◌∷◌, ◌++◌, length, take, drop, get_or, codes, Option, Some, None, refl, subst, sym, ap, ◌∙◌, arith, length-append, append_assoc}
 use Rattle.std.proofs.lemmas.Bool.{and_parts, both_ways, or_cases, eqb-true}
 use Rattle.std.proofs.lemmas.Bool.Decides.{nat_tests}
 use Rattle.std.specs.Char.{is_ascii_digit}
@@ -12,22 +12,21 @@ use Rattle.em_base.specs.declared.edition.Edition.{Edition}
 use Rattle.em_base.specs.declared.edition.Edition.TheVariants.{E2015, E2018}
 use Rattle.em_base.specs.declared.int_kind.IntKind.{IntKind}
 use Rattle.em_base.specs.declared.token.TokenKind.{TokenKind}
-use Rattle.em_base.specs.declared.token.TokenKind.TheVariants.{Ident, Lifetime, Int, Char, Byte, Str, ByteStr, Open, Close, Punct}
-use Rattle.em_lex.specs.declared.error.LexKind.{LexKind}
+use Rattle.em_base.specs.declared.token.TokenKind.TheVariants.{Ident, Lifetime, Int, Open, Close, Punct}
 use Rattle.em_lex.specs.declared.error.LexKind.TheVariants.{BadCharacter, Float, LiteralSuffix, BadLifetime, BadRaw}
 use Rattle.em_lex.specs.declared.piece.Form.{Form}
 use Rattle.em_lex.specs.declared.piece.Form.TheVariants.{Quoted, Single, Raw}
 use Rattle.em_lex.specs.declared.piece.Piece.{Piece}
-use Rattle.em_lex.specs.declared.piece.Piece.TheVariants.{Trivia as Gap, Token as Took, Fault as Bad}
+use Rattle.em_lex.specs.declared.piece.Piece.TheVariants.{Token as Took, Fault as Bad}
 use Rattle.em_lex.specs.Characters.{Chars, starts, name_of}
 use Rattle.em_lex.specs.Trivia.{begins_comment}
 use Rattle.em_lex.specs.Literals.{IsLiteral}
-use Rattle.em_lex.specs.Numbers.{base_of, Cut, IsInt}
+use Rattle.em_lex.specs.Numbers.{base_of, IsInt}
 use Rattle.em_lex.specs.Spelling.{Spells, IsRawWord, is_never_raw}
 use Rattle.em_lex.specs.Faults.{NumberAt}
-use Rattle.em_lex.specs.Scan.{first, run, starts_word, is_none, some_if, single_len, close_len, Reading, read, literal_read, literal_closed, literal_kind, literal_step, lifetime_step, quote_step, not_raw, plain_word, prefixed, raw_word, hash_step, word_before, word_step, value_from, suffix_of, point_at, float_tail, number_end, is_punct1, is_punct2, is_punct3, punct_len, is_open, is_close, mark_step, step}
-use Rattle.em_lex.proofs.Base.{impossible, by_test, pick, both, not_true, or_false, Passed, passed, same_front, same_text, no_start, no_continue, is_start-ascii}
-use Rattle.em_lex.proofs.Heads.{Mark, r_starts, step_word, step_single, step_mark}
+use Rattle.em_lex.specs.Scan.{first, starts_word, is_none, some_if, single_len, close_len, Reading, read, literal_read, literal_closed, literal_kind, literal_step, not_raw, raw_word, word_before, value_from, suffix_of, point_at, number_end, is_punct1, is_punct2, is_punct3, punct_len, is_open, is_close, mark_step, step}
+use Rattle.em_lex.proofs.Base.{impossible, by_test, pick, both, not_true, Passed, passed, same_front, same_text, no_start, no_continue}
+use Rattle.em_lex.proofs.Heads.{r_starts, step_word, step_single, step_mark}
 use Rattle.em_lex.proofs.LiteralLemmas.{literal_found}
 use Rattle.em_lex.proofs.WordLemmas.{true_false, Far, literal_far, hash_far, name_free, apart, word_ends, raw_is, lifetime_is, quote_if}
 use Rattle.em_lex.proofs.NumberLemmas.{number_cut, number_at, Whole, whole_number}

@@ -1,20 +1,17 @@
 -- The parts of a text with chosen words raw: their bytes, their tokens, and how the two texts look.
-use Rattle.std.proofs.Common.{◌≡◌, ◌⊎◌, inl, inr, ℕ, zero, suc, ◌+◌, ◌-◌, ◌<◌, ◌≤◌, Bool, true, false, not, cond, ◌&&◌, ◌||◌, ◌==◌, List, [], ◌∷◌, ◌++◌, length, take, drop, get_or, codes, encode_utf8_all, refl, subst, sym, ap, ◌∙◌, arith, add-zero, length-append, append_assoc, append-nil}
-use Rattle.std.specs.Prelude.{All, sum_by}
-use Rattle.std.specs.Char.{len_utf8}
+use Rattle.std.proofs.Common.{◌≡◌, ℕ, suc, ◌+◌, ◌-◌, Bool, true, false, cond, ◌||◌, List, [], ◌∷◌, ◌++◌, length, take, drop, codes, encode_utf8_all, refl, subst, sym, ap, ◌∙◌, arith, length-append, append_assoc}
+use Rattle.std.specs.Prelude.{All}
 use Rattle.std.specs.Str.{all_scalars}
 use Rattle.std.proofs.lemmas.Bool.{and_parts}
 use Rattle.std.proofs.lemmas.List.{take_at, drop_at}
 use Rattle.std.proofs.lemmas.Str.{encodes-append, encode_ascii}
-use Rattle.em_base.specs.Names.{is_start, is_word}
-use Rattle.em_base.specs.declared.edition.Edition.{Edition}
 use Rattle.em_base.specs.declared.edition.Edition.TheVariants.{E2015, E2018}
 use Rattle.em_base.specs.declared.token.Token.{Token}
 use Rattle.em_base.specs.declared.token.TokenKind.{TokenKind}
 use Rattle.em_base.specs.declared.token.TokenKind.TheVariants.{Ident}
-use Rattle.em_lex.specs.Characters.{Chars, starts}
+use Rattle.em_lex.specs.Characters.{Chars}
 use Rattle.em_lex.specs.Spelling.{is_never_raw}
-use Rattle.em_lex.specs.Lexing.{Part, trivia, token, spelled, Tiles, byte_len, tokens_of}
+use Rattle.em_lex.specs.Lexing.{Part, trivia, token, spelled, byte_len, tokens_of}
 use Rattle.em_lex.specs.Marking.{respelled, growth, raw_kind, moved_token, moved, marked, HasRawForm}
 use Rattle.em_lex.proofs.Base.{both}
 use Rattle.em_lex.proofs.Places.{token_is}

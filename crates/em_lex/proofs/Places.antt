@@ -1,24 +1,16 @@
 -- Where the tokens of a text lie.
-use Rattle.std.proofs.Common.{◌≡◌, ℕ, ◌+◌, ◌-◌, ◌<◌, ◌≤◌, Bool, true, false, not, ◌&&◌, ◌||◌, nat_le, ◌⊎◌, inl, inr, List, [], ◌∷◌, ◌++◌, length, take, drop, get_or, encode_utf8_all, refl, subst, sym, ap, ◌∙◌, arith, length-append, append_assoc, append-nil}
-use Rattle.std.specs.Prelude.{sum_by}
-use Rattle.std.specs.Char.{len_utf8, encode_utf8}
+use Rattle.std.proofs.Common.{◌≡◌, ℕ, ◌+◌, ◌-◌, ◌<◌, ◌≤◌, Bool, true, false, not, ◌&&◌, ◌||◌, nat_le, List, [], ◌∷◌, ◌++◌, length, take, drop, get_or, encode_utf8_all, refl, subst, sym, ap, ◌∙◌, arith, length-append, append_assoc}
 use Rattle.std.specs.Str.{all_scalars, IsCharBoundary}
 use Rattle.std.proofs.lemmas.Grind.{common_steps}
 use Rattle.std.proofs.lemmas.Bool.{and_parts}
 use Rattle.std.proofs.lemmas.Bool.Decides.{nat_tests}
 use Rattle.std.proofs.lemmas.List.{take_at, drop_at}
-use Rattle.std.proofs.lemmas.List.Sums.{sum_by-cons}
-use Rattle.std.proofs.lemmas.Str.{encodes-append, length-encode, len_utf8_bounds, length-le-encodes, IsCharBoundary-at_seam}
+use Rattle.std.proofs.lemmas.Str.{encodes-append, length-le-encodes, IsCharBoundary-at_seam}
 use Rattle.em_base.specs.declared.edition.Edition.{Edition}
 use Rattle.em_base.specs.declared.token.Token.{Token}
 use Rattle.em_base.specs.declared.token.TokenKind.{TokenKind}
-use Rattle.em_base.specs.declared.token.TokenKind.TheVariants.{Ident, Lifetime, Int, Char, Byte, Str, ByteStr, Open, Close, Punct}
 use Rattle.em_lex.specs.Characters.{Chars}
-use Rattle.em_lex.specs.declared.piece.Form.{Form}
-use Rattle.em_lex.specs.declared.piece.Form.TheVariants.{Quoted, Single, Raw}
-use Rattle.em_lex.specs.Literals.{opening, closing, IsLiteral}
-use Rattle.em_lex.specs.Spelling.{Spells}
-use Rattle.em_lex.specs.Lexing.{Part, trivia, token, Tiles, byte_len, tokens_of, Lexes}
+use Rattle.em_lex.specs.Lexing.{Part, trivia, token, Tiles, byte_len, tokens_of}
 use Rattle.em_lex.specs.Laws.{is_boundary, LiesIn, LieInOrder, TokensInText}
 use Rattle.em_lex.proofs.LexingLemmas.{spells_some}
 use Rattle.em_lex.proofs.WalkLemmas.{byte_len-append}
