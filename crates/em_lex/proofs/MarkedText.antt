@@ -83,11 +83,11 @@ cut_marked chosen file at doc gap w rest kind ts =
     let through : length (encode_utf8_all gap ++ encode_utf8_all w) ≡ at + byte_len gap + byte_len w - at = omega (arith, both_len, g, l) in
     let whole : encode_utf8_all (gap ++ (w ++ rest)) ≡ encode_utf8_all gap ++ (encode_utf8_all w ++ encode_utf8_all rest) = encodes-append gap (w ++ rest) ∙ ap (λ x. encode_utf8_all gap ++ x) (encodes-append w rest) in
     let front : take (at + byte_len gap - at) (encode_utf8_all (gap ++ (w ++ rest))) ≡ encode_utf8_all gap =
-        ap (take (at + byte_len gap - at)) whole ∙ ap (λ n. take n (encode_utf8_all gap ++ (encode_utf8_all w ++ encode_utf8_all rest))) before
-        ∙ take_at (encode_utf8_all gap) (encode_utf8_all w ++ encode_utf8_all rest) (length (encode_utf8_all gap)) refl in
+    ap (take (at + byte_len gap - at)) whole ∙ ap (λ n. take n (encode_utf8_all gap ++ (encode_utf8_all w ++ encode_utf8_all rest))) before
+    ∙ take_at (encode_utf8_all gap) (encode_utf8_all w ++ encode_utf8_all rest) (length (encode_utf8_all gap)) refl in
     let left : drop (at + byte_len gap + byte_len w - at) (encode_utf8_all (gap ++ (w ++ rest))) ≡ encode_utf8_all rest =
-        ap (drop (at + byte_len gap + byte_len w - at)) (whole ∙ sym (append_assoc (encode_utf8_all gap) (encode_utf8_all w) (encode_utf8_all rest)))
-        ∙ drop_at (encode_utf8_all gap ++ encode_utf8_all w) (encode_utf8_all rest) (at + byte_len gap + byte_len w - at) through in
+    ap (drop (at + byte_len gap + byte_len w - at)) (whole ∙ sym (append_assoc (encode_utf8_all gap) (encode_utf8_all w) (encode_utf8_all rest)))
+    ∙ drop_at (encode_utf8_all gap ++ encode_utf8_all w) (encode_utf8_all rest) (at + byte_len gap + byte_len w - at) through in
     ap (λ x. x ++ (respelled chosen t ++ marked chosen (at + byte_len gap + byte_len w) (drop (at + byte_len gap + byte_len w - at) (encode_utf8_all (gap ++ (w ++ rest)))) ts)) front
     ∙ ap (λ x. encode_utf8_all gap ++ (respelled chosen t ++ marked chosen (at + byte_len gap + byte_len w) x ts)) left
     ∙ ap (λ x. encode_utf8_all gap ++ (x ++ marked chosen (at + byte_len gap + byte_len w) (encode_utf8_all rest) ts)) (encode_respelt (chosen t) w)
@@ -110,8 +110,8 @@ marked_is chosen file at doc gap (token w kind ∷ ps) =
     let place : at + byte_len gap + byte_len w + 0 ≡ at + byte_len gap + byte_len w = omega arith in
     let rest : Chars = all_of (raised chosen file (at + byte_len gap + byte_len w) false ps) in
     let more : marked chosen (at + byte_len gap + byte_len w) (encode_utf8_all (all_of ps)) (tokens_of file E2015 (at + byte_len gap + byte_len w) false ps) ≡ encode_utf8_all rest =
-        subst (λ n. marked chosen (at + byte_len gap + byte_len w) (encode_utf8_all (all_of ps)) (tokens_of file E2015 n false ps) ≡ encode_utf8_all (all_of (raised chosen file n false ps))) place
-        (marked_is chosen file (at + byte_len gap + byte_len w) false [] ps) in
+    subst (λ n. marked chosen (at + byte_len gap + byte_len w) (encode_utf8_all (all_of ps)) (tokens_of file E2015 n false ps) ≡ encode_utf8_all (all_of (raised chosen file n false ps))) place
+    (marked_is chosen file (at + byte_len gap + byte_len w) false [] ps) in
     cut_marked chosen file at doc gap w (all_of ps) kind (tokens_of file E2015 (at + byte_len gap + byte_len w) false ps)
     ∙ ap (λ x. encode_utf8_all gap ++ (encode_utf8_all (respelt c w) ++ x)) more
     ∙ ap (λ x. encode_utf8_all gap ++ x) (sym (encodes-append (respelt c w) rest))

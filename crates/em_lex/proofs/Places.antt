@@ -71,12 +71,12 @@ lies_in file edition at doc front w rest kind le some scalars =
       some = omega (arith, some, wl, most);
       within = omega (arith, all, inner, fl, wl);
       bytes = sym (ap (λ x. take (byte_len front + byte_len w - byte_len front) (drop (byte_len front) x)) cut
-      ∙ ap (λ x. take (byte_len front + byte_len w - byte_len front) x) (drop_at (encode_utf8_all front) (encode_utf8_all w ++ encode_utf8_all rest) (byte_len front) fl)
-      ∙ ap (λ n. take n (encode_utf8_all w ++ encode_utf8_all rest)) len
-      ∙ take_at (encode_utf8_all w) (encode_utf8_all rest) (byte_len w) wl);
+          ∙ ap (λ x. take (byte_len front + byte_len w - byte_len front) x) (drop_at (encode_utf8_all front) (encode_utf8_all w ++ encode_utf8_all rest) (byte_len front) fl)
+          ∙ ap (λ n. take n (encode_utf8_all w ++ encode_utf8_all rest)) len
+          ∙ take_at (encode_utf8_all w) (encode_utf8_all rest) (byte_len w) wl);
       starts_whole = boundary_at front (w ++ rest) scalars;
       ends_whole = subst (λ x. is_boundary (encode_utf8_all x) (byte_len front + byte_len w) ≡ true) whole
-      (subst (λ n. is_boundary (encode_utf8_all ((front ++ w) ++ rest)) n ≡ true) both (boundary_at (front ++ w) rest (subst (λ x. all_scalars x ≡ true) (sym whole) scalars)));
+          (subst (λ n. is_boundary (encode_utf8_all ((front ++ w) ++ rest)) n ≡ true) both (boundary_at (front ++ w) rest (subst (λ x. all_scalars x ≡ true) (sym whole) scalars)));
     }
 
 -- the tokens of parts behind a front of the text
@@ -94,12 +94,11 @@ in_order file edition at dot doc end front text (token w kind ∷ ps) le scalars
     let whole : (front ++ w) ++ rest ≡ front ++ text = append_assoc front w rest ∙ ap (λ x. front ++ x) (sym parts) in
     let lies : LiesIn file edition at (encode_utf8_all (front ++ text)) (token_is file edition (byte_len front) doc w kind) =
     subst (λ x. LiesIn file edition at (encode_utf8_all (front ++ x)) (token_is file edition (byte_len front) doc w kind)) (sym parts)
-    (lies_in file edition at doc front w rest kind le (spells_some dot w kind here.longest.spells) (subst (λ x. all_scalars (front ++ x) ≡ true) parts scalars)) in
-    (
+    (lies_in file edition at doc front w rest kind le (spells_some dot w kind here.longest.spells) (subst (λ x. all_scalars (front ++ x) ≡ true) parts scalars)) in (
       lies,
       subst (λ n. LieInOrder file edition n (encode_utf8_all (front ++ text)) (tokens_of file edition n false ps)) len
-      (subst (λ x. LieInOrder file edition (byte_len (front ++ w)) (encode_utf8_all x) (tokens_of file edition (byte_len (front ++ w)) false ps)) whole
-      (in_order file edition (byte_len (front ++ w)) _ false end (front ++ w) rest ps (omega arith) (subst (λ x. all_scalars x ≡ true) (sym whole) scalars) more)),
+          (subst (λ x. LieInOrder file edition (byte_len (front ++ w)) (encode_utf8_all x) (tokens_of file edition (byte_len (front ++ w)) false ps)) whole
+          (in_order file edition (byte_len (front ++ w)) _ false end (front ++ w) rest ps (omega arith) (subst (λ x. all_scalars x ≡ true) (sym whole) scalars) more)),
     )
 
 pub tokens_in_text : TokensInText
