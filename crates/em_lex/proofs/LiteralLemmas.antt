@@ -158,7 +158,7 @@ literal_holds e dot byte form text cs parts letter = here (close_len byte form c
         let lit : IsLiteral byte form w (read byte form 0 b).value = record { body = b; parts = refl; is_body = body_alone byte form b after [] (read byte form 0 b).value c.is_body d; denotes = d } in
         let cut : text ≡ w ++ after = parts ∙ ap (λ x. opening byte form ++ x) (c.parts ∙ sym (append_assoc b (closing form) after)) ∙ sym (append_assoc (opening byte form) (b ++ closing form) after) in
         let len : length (opening byte form) + (length b + closing_len form) ≡ length w =
-            ap (λ k. length (opening byte form) + k) (ap (λ k. length b + k) (sym (closing_is form)) ∙ sym (length-append b (closing form))) ∙ sym (length-append (opening byte form) (b ++ closing form)) in
+        ap (λ k. length (opening byte form) + k) (ap (λ k. length b + k) (sym (closing_is form)) ∙ sym (length-append b (closing form))) ∙ sym (length-append (opening byte form) (b ++ closing form)) in
         subst (λ (o : Option ℕ). Holds e dot text (literal_read byte form (length (opening byte form)) b (length (opening byte form) + (length b + closing_len form)) (read byte form 0 b) o)) (sym n)
         (record { w = w; left = after; parts = cut; len = len }, literal_kinds byte form w (read byte form 0 b).value lit dot)
     closed_at b after c (stops good bad d f n us free) =
@@ -188,12 +188,12 @@ pub literal_found : (e : Edition) (dot byte : Bool) (form : Form) (w value rest 
 literal_found e dot byte form w value rest lit =
     let cs : Chars = lit.body ++ (closing form ++ rest) in
     let cut : w ++ rest ≡ opening byte form ++ cs =
-        ap (λ x. x ++ rest) lit.parts ∙ append_assoc (opening byte form) (lit.body ++ closing form) rest ∙ ap (λ x. opening byte form ++ x) (append_assoc lit.body (closing form) rest) in
+    ap (λ x. x ++ rest) lit.parts ∙ append_assoc (opening byte form) (lit.body ++ closing form) rest ∙ ap (λ x. opening byte form ++ x) (append_assoc lit.body (closing form) rest) in
     let closed : Closed byte form cs lit.body rest = record { parts = refl; is_body = body_alone byte form lit.body [] rest value lit.is_body lit.denotes } in
     let found = step_opening e dot byte form cs (letter byte form cs lit.body rest closed) ∙ literal_is byte form (length (opening byte form)) cs lit.body rest closed in
     let reading = denoted byte form lit.body value lit.denotes in
     let len : length w ≡ length (opening byte form) + (length lit.body + closing_len form) =
-        ap (λ x. length x) lit.parts ∙ length-append (opening byte form) (lit.body ++ closing form) ∙ ap (λ k. length (opening byte form) + k) (length-append lit.body (closing form) ∙ ap (λ k. length lit.body + k) (closing_is form)) in
+    ap (λ x. length x) lit.parts ∙ length-append (opening byte form) (lit.body ++ closing form) ∙ ap (λ k. length (opening byte form) + k) (length-append lit.body (closing form) ∙ ap (λ k. length lit.body + k) (closing_is form)) in
     ap (step e dot) cut ∙ found
     ∙ ap (λ (r : Reading). cond (starts is_start rest) (Bad LiteralSuffix 0) (literal_read byte form (length (opening byte form)) lit.body (length (opening byte form) + (length lit.body + closing_len form)) r r.bad)) reading
     ∙ ap (λ n. cond (starts is_start rest) (Bad LiteralSuffix 0) (Took (literal_kind byte form value) n)) (sym len)

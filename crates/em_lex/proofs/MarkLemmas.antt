@@ -116,12 +116,139 @@ pub data Shape : Chars → Type 0 where
 
 pub shape_of : (w : Chars) → is_among punctuation w ≡ true → Shape w
 shape_of w h =
-    any_of Shape w punctuation
-    (one refl, (one refl, (one refl, (one refl, (one refl, (one refl, (one refl, (one refl, (one refl, (two refl refl, (two refl refl, (two refl refl, (two refl refl, (two refl refl, (two refl refl, (two refl refl, (two refl refl,
-    (two refl refl, (two refl refl, (two refl refl, (two refl refl, (three refl refl, (three refl refl, (one refl, (two refl refl, (two refl refl,
-    (one refl, (one refl, (two refl refl, (two refl refl, (one refl, (under, (one refl, (two refl refl, (three refl refl,
-    (three refl refl, (one refl, (one refl, (one refl, (two refl refl, (two refl refl, (two refl refl, (two refl refl, (one refl,
-    (one refl, (one refl, (one refl, tt))))))))))))))))))))))))))))))))))))))))))))))) h
+    any_of Shape w punctuation (
+      one refl,
+      (
+        one refl,
+        (
+          one refl,
+          (
+            one refl,
+            (
+              one refl,
+              (
+                one refl,
+                (
+                  one refl,
+                  (
+                    one refl,
+                    (
+                      one refl,
+                      (
+                        two refl refl,
+                        (
+                          two refl refl,
+                          (
+                            two refl refl,
+                            (
+                              two refl refl,
+                              (
+                                two refl refl,
+                                (
+                                  two refl refl,
+                                  (
+                                    two refl refl,
+                                    (
+                                      two refl refl,
+                                      (
+                                        two refl refl,
+                                        (
+                                          two refl refl,
+                                          (
+                                            two refl refl,
+                                            (
+                                              two refl refl,
+                                              (
+                                                three refl refl,
+                                                (
+                                                  three refl refl,
+                                                  (
+                                                    one refl,
+                                                    (
+                                                      two refl refl,
+                                                      (
+                                                        two refl refl,
+                                                        (
+                                                          one refl,
+                                                          (
+                                                            one refl,
+                                                            (
+                                                              two refl refl,
+                                                              (
+                                                                two refl refl,
+                                                                (
+                                                                  one refl,
+                                                                  (
+                                                                    under,
+                                                                    (
+                                                                      one refl,
+                                                                      (
+                                                                        two refl refl,
+                                                                        (
+                                                                          three refl refl,
+                                                                          (
+                                                                            three refl refl,
+                                                                            (
+                                                                              one refl,
+                                                                              (
+                                                                                one refl,
+                                                                                (
+                                                                                  one refl,
+                                                                                  (
+                                                                                    two refl refl,
+                                                                                    (
+                                                                                      two refl refl,
+                                                                                      (
+                                                                                        two refl refl,
+                                                                                        (
+                                                                                          two refl refl,
+                                                                                          (
+                                                                                            one refl,
+                                                                                            (one refl, (one refl, (one refl, tt))),
+                                                                                          ),
+                                                                                        ),
+                                                                                      ),
+                                                                                    ),
+                                                                                  ),
+                                                                                ),
+                                                                              ),
+                                                                            ),
+                                                                          ),
+                                                                        ),
+                                                                      ),
+                                                                    ),
+                                                                  ),
+                                                                ),
+                                                              ),
+                                                            ),
+                                                          ),
+                                                        ),
+                                                      ),
+                                                    ),
+                                                  ),
+                                                ),
+                                              ),
+                                            ),
+                                          ),
+                                        ),
+                                      ),
+                                    ),
+                                  ),
+                                ),
+                              ),
+                            ),
+                          ),
+                        ),
+                      ),
+                    ),
+                  ),
+                ),
+              ),
+            ),
+          ),
+        ),
+      ),
+    ) h
 
 -- ---- the head
 
@@ -328,7 +455,6 @@ mark_holds e dot c cs m =
 
     nothing : is_open c ≡ false → is_close c ≡ false → is_punct1 c ≡ false → begins_nothing c ≡ true
     nothing o k p = let a = m.blank in let b = m.word in let d = m.digit in let q = m.quote in let s = m.single in let z = no_mark o k p in rw (a, b, d, q, s, z)
-
 
 -- and is found
 pub unknown_told : (e : Edition) (dot : Bool) (c : ℕ) (cs : Chars) → begins_nothing c ≡ true → Told (step e dot (c ∷ cs)) BadCharacter 0

@@ -122,7 +122,7 @@ number_split dot w cs ds m =
 pub number_is : (dot : Bool) (w part tail cs : Chars) → Cut dot w part tail → number_of dot w cs ≡ number_with dot w part tail cs
 number_is dot w part tail cs c =
     let ds : drop (mark_len (base_of dot w)) w ≡ part ++ tail =
-        ap (drop (mark_len (base_of dot w))) c.parts ∙ ap (λ n. drop n (base_mark (base_of dot w) ++ (part ++ tail))) (sym (mark_is dot w)) ∙ drop_front (base_mark (base_of dot w)) (part ++ tail) in
+    ap (drop (mark_len (base_of dot w))) c.parts ∙ ap (λ n. drop n (base_mark (base_of dot w) ++ (part ++ tail))) (sym (mark_is dot w)) ∙ drop_front (base_mark (base_of dot w)) (part ++ tail) in
     let m : prefix_len (digit_part dot (base_of dot w)) (part ++ tail) ≡ length part = prefix_all (digit_part dot (base_of dot w)) part tail c.digits c.ends in
     number_by_is dot w cs ∙ ap (number_by dot w cs) (radix_is dot w)
     ∙ ap (λ x. number_split dot w cs x (prefix_len (digit_part dot (base_of dot w)) x)) ds
@@ -297,7 +297,7 @@ all_append p (c ∷ v) w h k = let a = and_parts (p c) (list_all p v) h in both 
 int_continues : (dot : Bool) (v : Chars) (value : ℕ) (s : Option IntKind) → IsInt dot v value s → list_all is_xid_continue v ≡ true
 int_continues dot v value s i =
     let mark : list_all is_xid_continue (base_mark (base_of dot v)) ≡ true =
-        each_base (λ b. list_all is_xid_continue (base_mark b) ≡ true) dot v (λ t. ascii_text (codes "0x") refl) (λ t. ascii_text (codes "0o") refl) (λ t. ascii_text (codes "0b") refl) refl in
+    each_base (λ b. list_all is_xid_continue (base_mark b) ≡ true) dot v (λ t. ascii_text (codes "0x") refl) (λ t. ascii_text (codes "0o") refl) (λ t. ascii_text (codes "0b") refl) refl in
     subst (λ x. list_all is_xid_continue x ≡ true) (sym i.cut.parts)
     (all_append is_xid_continue (base_mark (base_of dot v)) (i.part ++ i.tail) mark (all_append is_xid_continue i.part i.tail (all_continue (is_part dot (base_of dot v)) (part_continues dot (base_of dot v)) i.part i.cut.digits) (suffix_continues dot i.tail s i.suffix_is)))
 
@@ -338,7 +338,7 @@ int_covers e dot (d ∷ v) rest value s i = whole (whole_number d (v ++ rest) i.
         let val = has_value (base_of dot n.w) i.part value (base_low dot n.w) has in
         let suf = suffix_found dot i.tail s i.suffix_is in
         let end : number_end (length n.w) (value_from (base_of dot n.w) false 0 i.part) (suffix_of dot i.tail) ≡ Took (Int value s) (length n.w) =
-            ap (λ o. number_end (length n.w) o (suffix_of dot i.tail)) val ∙ ap (number_end (length n.w) (Some value)) suf in
+        ap (λ o. number_end (length n.w) o (suffix_of dot i.tail)) val ∙ ap (number_end (length n.w) (Some value)) suf in
         subst P (sym found)
         (pick P (not dot && (base_of dot n.w == 10) && float_tail i.tail n.left) _ _ (λ t. tt) (λ t. subst P (sym end) (omega (arith, l), λ e. refl)))
 

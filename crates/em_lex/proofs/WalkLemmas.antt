@@ -133,16 +133,19 @@ so_far-next file e offset text out new place next piece rest len far f k =
     let some = part_some e place.dot n.p n.left n.at in
     let dropped : drop len rest ≡ n.left = ap (λ m. drop m rest) n.len_is ∙ ap (drop (length (spelled n.p))) n.parts ∙ drop_front (spelled n.p) n.left in
     let bytes : byte_len rest ≡ byte_len (spelled n.p) + byte_len n.left = ap byte_len n.parts ∙ byte_len-append (spelled n.p) n.left in
-    let left_bytes = ap byte_len dropped in
-    (record {
-      goes = λ ps d r t.
-          let given : Tiles e (is_dot n.p) n.left ps d r = subst (λ b. Tiles e b n.left ps d r) n.dot_is (subst (λ x. Tiles e next.dot x ps d r) dropped t) in
-          let (qs, whole, toks) = far.goes (n.p ∷ ps) d r (n.left, n.parts, n.at, given) in
-          (qs, whole, toks ∙ n.tokens ps);
-      place_is = omega (arith, far.place_is, bytes, left_bytes, n.start_is);
-      file_is = n.file_is ∙ far.file_is;
-      edition_is = n.edition_is ∙ far.edition_is;
-    }, omega (arith, some, n.len_is), omega (arith, l, n.len_is))
+    let left_bytes = ap byte_len dropped in (
+      record {
+        goes = λ ps d r t.
+            let given : Tiles e (is_dot n.p) n.left ps d r = subst (λ b. Tiles e b n.left ps d r) n.dot_is (subst (λ x. Tiles e next.dot x ps d r) dropped t) in
+            let (qs, whole, toks) = far.goes (n.p ∷ ps) d r (n.left, n.parts, n.at, given) in
+            (qs, whole, toks ∙ n.tokens ps);
+        place_is = omega (arith, far.place_is, bytes, left_bytes, n.start_is);
+        file_is = n.file_is ∙ far.file_is;
+        edition_is = n.edition_is ∙ far.edition_is;
+      },
+      omega (arith, some, n.len_is),
+      omega (arith, l, n.len_is),
+    )
 
 pub so_far-done : (file : ℕ) (e : Edition) (offset : ℕ) (text : Chars) (out : List Token) (place : Place) (rest : Chars) → SoFar file e offset text out place rest → length rest ≡ 0 → LexesFrom file e offset text out
 so_far-done file e offset text out place [] far none =

@@ -174,9 +174,10 @@ raw_holds e dot (c ∷ cs) none = whole (passed is_xid_continue cs)
         subst (Holds e dot (114 ∷ 35 ∷ c ∷ cs)) (sym step_is)
         (pick (Holds e dot (114 ∷ 35 ∷ c ∷ cs)) (is_start c && not (bytes_eq (c ∷ p.front) (codes "_") || not_raw (name_of (c ∷ p.front)))) _ _
         (λ t. let a = and_parts (is_start c) _ t in
-        let b = or_false (bytes_eq (c ∷ p.front) (codes "_")) (not_raw (name_of (c ∷ p.front))) (not_true _ a.1) in
-        (record { w = 114 ∷ 35 ∷ c ∷ p.front; left = p.rest; parts = ap (λ xs. 114 ∷ 35 ∷ c ∷ xs) p.parts; len = omega arith },
-        record { word = c ∷ p.front; parts = refl; identifier = both (is_word (c ∷ p.front)) _ (both (is_start c) _ a.0 p.all) (ap not b.0); name_is = refl; free = free_name (name_of (c ∷ p.front)) b.1 }))
+        let b = or_false (bytes_eq (c ∷ p.front) (codes "_")) (not_raw (name_of (c ∷ p.front))) (not_true _ a.1) in (
+          record { w = 114 ∷ 35 ∷ c ∷ p.front; left = p.rest; parts = ap (λ xs. 114 ∷ 35 ∷ c ∷ xs) p.parts; len = omega arith },
+          record { word = c ∷ p.front; parts = refl; identifier = both (is_word (c ∷ p.front)) _ (both (is_start c) _ a.0 p.all) (ap not b.0); name_is = refl; free = free_name (name_of (c ∷ p.front)) b.1 },
+        ))
         (λ t. hash_r (c ∷ cs) refl none (λ b. no_word p t b) refl refl))
       where
         same_words : (p : Passed is_xid_continue cs) (w left : Chars) → c ∷ cs ≡ w ++ left → starts is_xid_continue left ≡ false → is_identifier w ≡ true → c ∷ p.front ≡ w
@@ -353,7 +354,7 @@ word_covers e dot (c ∷ v) rest i = whole (passed is_xid_continue (v ++ rest))
         let b = and_parts (is_start c) (list_all is_xid_continue v) a.0 in
         let long : length v ≤ length p.front = (let m = prefix_most is_xid_continue v rest b.1 in let l = p.len in omega (arith, m, l)) in
         let found : step e dot (c ∷ (v ++ rest)) ≡ word_before e (c ∷ p.front) (length (c ∷ p.front)) (first p.rest) p.rest =
-            step_word e dot c (v ++ rest) b.0 ∙ ap (λ xs. word_step e (c ∷ xs)) p.parts ∙ word_ends e c p.front p.rest p.all p.ends in
+        step_word e dot c (v ++ rest) b.0 ∙ ap (λ xs. word_step e (c ∷ xs)) p.parts ∙ word_ends e c p.front p.rest p.all p.ends in
         subst (λ q. Covered ((c ∷ v) ++ rest) q (Ident (name_of (c ∷ v)) false) (length (c ∷ v))) (sym found)
         (before_covers e ((c ∷ v) ++ rest) (c ∷ p.front) p.rest (Ident (name_of (c ∷ v)) false) (length (c ∷ v)) (omega (arith, long))
         (plain_covers ((c ∷ v) ++ rest) (c ∷ v) (c ∷ p.front) i (record { short = omega (arith, long); same = λ e. ap (λ x. c ∷ x) (same_front v p.front rest p.rest p.parts (omega (arith, e))).0 })))
@@ -376,7 +377,7 @@ under_covers e dot rest = whole (passed is_xid_continue rest)
     whole : Passed is_xid_continue rest → Covered (95 ∷ rest) (step e dot (95 ∷ rest)) Punct 1
     whole p =
         let found : step e dot (95 ∷ rest) ≡ word_before e (95 ∷ p.front) (length (95 ∷ p.front)) (first p.rest) p.rest =
-            step_word e dot 95 rest refl ∙ ap (λ xs. word_step e (95 ∷ xs)) p.parts ∙ word_ends e 95 p.front p.rest p.all p.ends in
+        step_word e dot 95 rest refl ∙ ap (λ xs. word_step e (95 ∷ xs)) p.parts ∙ word_ends e 95 p.front p.rest p.all p.ends in
         subst (λ q. Covered (95 ∷ rest) q Punct 1) (sym found)
         (before_covers e (95 ∷ rest) (95 ∷ p.front) p.rest Punct 1 (omega arith) (alone p.front))
 
@@ -399,7 +400,7 @@ raw_covers e dot v rest name r = subst (λ x. Covered (x ++ rest) (step e dot (x
             let no_hash : (c == 35) ≡ false = apart c 35 b.0 (no_start 35 (omega arith) refl) in
             let no_quote : (c == 34) ≡ false = apart c 34 b.0 (no_start 34 (omega arith) refl) in
             let found : step e dot (114 ∷ 35 ∷ c ∷ (w ++ rest)) ≡ raw_word (c ∷ (w ++ rest)) =
-                step_word e dot 114 (35 ∷ c ∷ (w ++ rest)) r_start ∙ word_ends e 114 [] (35 ∷ c ∷ (w ++ rest)) refl (no_continue 35 (omega arith) refl) ∙ (rw (no_hash, no_quote)) in
+            step_word e dot 114 (35 ∷ c ∷ (w ++ rest)) r_start ∙ word_ends e 114 [] (35 ∷ c ∷ (w ++ rest)) refl (no_continue 35 (omega arith) refl) ∙ (rw (no_hash, no_quote)) in
             let raw : raw_word (c ∷ (w ++ rest)) ≡ _ = ap (λ xs. raw_word (c ∷ xs)) p.parts ∙ raw_is c p.front p.rest p.all p.ends in
             subst (λ q. Covered (114 ∷ 35 ∷ c ∷ (w ++ rest)) q (Ident name true) (suc (suc (length (c ∷ w))))) (sym (found ∙ raw))
             (pick (λ q. Covered (114 ∷ 35 ∷ c ∷ (w ++ rest)) q (Ident name true) (suc (suc (length (c ∷ w))))) (is_start c && not (bytes_eq (c ∷ p.front) (codes "_") || not_raw (name_of (c ∷ p.front)))) _ _

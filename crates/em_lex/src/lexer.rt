@@ -42,12 +42,7 @@ struct Place {
 
 /// The token of a word at a place.
 #[tactic(auto, using(crate::proofs::WalkLemmas::bytes))]
-fn token_of(
-    alloc: Global,
-    place: Place,
-    kind: TokenKind,
-    word: &[char],
-) -> Result<Token, NoMemory>
+fn token_of(alloc: Global, place: Place, kind: TokenKind, word: &[char]) -> Result<Token, NoMemory>
     requires fits { place.start + byte_len word.now < 2 ^ 32 }
     ensures { IfOk result (λ t. t ≡ token_at place.file place.edition place.start place.doc kind word.now) }
 {
@@ -169,12 +164,7 @@ fn mark_len(cs: &[char]) -> usize
 }
 
 /// The tokens of a text.
-fn lex_text(
-    alloc: Global,
-    file: u32,
-    edition: Edition,
-    text: &str,
-) -> Result<Tokens, LexError>
+fn lex_text(alloc: Global, file: u32, edition: Edition, text: &str) -> Result<Tokens, LexError>
     requires { length text.now ≤ most }
     ensures tokens { IfOk result (λ tokens. Lexes file edition text.now tokens.list) }
     ensures refused { IfErr result (λ e. RefusedText edition text.now e) }

@@ -13,12 +13,7 @@ use std::alloc::Global;
 
 /// What stands at the front of a text, directly behind a `.` token or not.
 #[tactic(auto, unfolding(crate::specs::Scan::step))]
-pub fn step(
-    alloc: Global,
-    edition: Edition,
-    dot: bool,
-    cs: &[char],
-) -> Result<Piece, NoMemory>
+pub fn step(alloc: Global, edition: Edition, dot: bool, cs: &[char]) -> Result<Piece, NoMemory>
     requires some { 1 ≤ length cs.now }
     requires small { 3 + length cs.now < 2 ^ 32 }
     ensures { IfOk result (λ p. p ≡ spec.step edition dot cs.now) }

@@ -38,7 +38,7 @@ returns-in_err-list-clause-refused c =
     let r : c.rest_from.result.now ≡ drop (mark_len cs) cs = rest_is cs c.deref-3.result.now c.rest_from.result.now c.mark_len-mark.result m c.deref-3.ensures.value c.rest_from.ensures in
     let given : RefusedFrom c.args.edition c.byte_len-start.result (drop (mark_len cs) cs) c.in_err-list.field-0.0 = subst (λ x. RefusedFrom c.args.edition c.byte_len-start.result x c.in_err-list.field-0.0) r c.in_err-list.ensures.refused in
     let e : RefusedText c.args.edition c.args.text.now c.in_err-list.field-0.0 =
-        refused_text c.args.edition c.args.text.now cs c.byte_len-start.result c.in_err-list.field-0.0 (text_scalars c.args.text.now cs c.utf8.text c.in_ok-cs.ensures) (text_encoded c.args.text.now cs c.utf8.text c.in_ok-cs.ensures) s given in
+    refused_text c.args.edition c.args.text.now cs c.byte_len-start.result c.in_err-list.field-0.0 (text_scalars c.args.text.now cs c.utf8.text c.in_ok-cs.ensures) (text_encoded c.args.text.now cs c.utf8.text c.in_ok-cs.ensures) s given in
     search rules
 
 pub returns-clause-tokens : goal.returns-clause-tokens
