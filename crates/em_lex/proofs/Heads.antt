@@ -83,7 +83,7 @@ step_mark e dot c cs m =
 
 -- ---- openings of literals
 
-r_starts : is_start 114 ≡ true
+pub r_starts : is_start 114 ≡ true
 r_starts = is_start-ascii 114 (omega arith)
 
 b_starts : is_start 98 ≡ true

@@ -122,10 +122,10 @@ part_step e dot (trivia w doc) rest t = trivia_step e dot w doc rest t
 part_step e dot (token [] kind) rest t = absurd (omega (arith, spells_some dot [] kind t.longest.spells))
 part_step e dot (token (c ∷ w) kind) rest t = token_step e dot c (w ++ rest) (c ∷ w) rest kind refl t
 
-no_gap : {n m : ℕ} {doc : Bool} {kind : TokenKind} → Gap n doc ≡ Took kind m → ⊥
+pub no_gap : {n m : ℕ} {doc : Bool} {kind : TokenKind} → Gap n doc ≡ Took kind m → ⊥
 no_gap e = cc
 
-no_bad : {at m : ℕ} {fault : LexKind} {kind : TokenKind} → Bad fault at ≡ Took kind m → ⊥
+pub no_bad : {at m : ℕ} {fault : LexKind} {kind : TokenKind} → Bad fault at ≡ Took kind m → ⊥
 no_bad e = cc
 
 -- no token begins where a comment does
@@ -184,7 +184,7 @@ fault_stuck e dot text kind at s p rest parts is = not_fault p kind at (subst (�
 same_gap : {n m : ℕ} {a b : Bool} → Gap n a ≡ Gap m b → (n ≡ m) × (a ≡ b)
 same_gap e = (cc, cc)
 
-same_took : {n m : ℕ} {a b : TokenKind} → Took a n ≡ Took b m → (n ≡ m) × (a ≡ b)
+pub same_took : {n m : ℕ} {a b : TokenKind} → Took a n ≡ Took b m → (n ≡ m) × (a ≡ b)
 same_took e = (cc, cc)
 
 record SamePart (p q : Part) (r s : Chars) : Type 0 where

@@ -1,3 +1,7 @@
+pub mod Places
+pub mod MarkedText
+pub mod MarkedLooks
+pub mod Marked
 pub mod Indices
 pub mod Base
 pub mod Values

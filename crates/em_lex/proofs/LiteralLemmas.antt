@@ -182,9 +182,10 @@ literal_holds e dot byte form text cs parts letter = here (close_len byte form c
 
 -- ---- what stands there is found
 
--- a literal that is spelled in front is found, unless a word follows
-pub literal_covers : (e : Edition) (dot byte : Bool) (form : Form) (w value rest : Chars) → IsLiteral byte form w value → Covered (w ++ rest) (step e dot (w ++ rest)) (literal_kind byte form value) (length w)
-literal_covers e dot byte form w value rest lit =
+-- the step at a literal that is spelled in front, unless a word follows
+pub literal_found : (e : Edition) (dot byte : Bool) (form : Form) (w value rest : Chars) → IsLiteral byte form w value
+    → step e dot (w ++ rest) ≡ cond (starts is_start rest) (Bad LiteralSuffix 0) (Took (literal_kind byte form value) (length w))
+literal_found e dot byte form w value rest lit =
     let cs : Chars = lit.body ++ (closing form ++ rest) in
     let cut : w ++ rest ≡ opening byte form ++ cs =
     ap (λ x. x ++ rest) lit.parts ∙ append_assoc (opening byte form) (lit.body ++ closing form) rest ∙ ap (λ x. opening byte form ++ x) (append_assoc lit.body (closing form) rest) in
@@ -193,10 +194,9 @@ literal_covers e dot byte form w value rest lit =
     let reading = denoted byte form lit.body value lit.denotes in
     let len : length w ≡ length (opening byte form) + (length lit.body + closing_len form) =
     ap (λ x. length x) lit.parts ∙ length-append (opening byte form) (lit.body ++ closing form) ∙ ap (λ k. length (opening byte form) + k) (length-append lit.body (closing form) ∙ ap (λ k. length lit.body + k) (closing_is form)) in
-    subst (λ p. Covered (w ++ rest) p (literal_kind byte form value) (length w)) (sym (ap (step e dot) cut ∙ found))
-    (pick (λ p. Covered (w ++ rest) p (literal_kind byte form value) (length w)) (starts is_start rest) _ _ (λ s. tt)
-    (λ s. subst (λ (r : Reading). Covered (w ++ rest) (literal_read byte form (length (opening byte form)) lit.body (length (opening byte form) + (length lit.body + closing_len form)) r r.bad) (literal_kind byte form value) (length w)) (sym reading)
-    (omega (arith, len), λ same. refl)))
+    ap (step e dot) cut ∙ found
+    ∙ ap (λ (r : Reading). cond (starts is_start rest) (Bad LiteralSuffix 0) (literal_read byte form (length (opening byte form)) lit.body (length (opening byte form) + (length lit.body + closing_len form)) r r.bad)) reading
+    ∙ ap (λ n. cond (starts is_start rest) (Bad LiteralSuffix 0) (Took (literal_kind byte form value) n)) (sym len)
   where
     letter : (byte : Bool) (form : Form) (cs b after : Chars) → Closed byte form cs b after → IsLetter byte form cs
     letter byte form cs b after c f s =
@@ -211,3 +211,9 @@ literal_covers e dot byte form w value rest lit =
     denoted byte Quoted b v d = read_whole byte Quoted b v d
     denoted byte Single b v d = read_one byte Single b v d
     denoted byte (Raw n) b v d = read_whole byte (Raw n) b v d
+
+-- it is found
+pub literal_covers : (e : Edition) (dot byte : Bool) (form : Form) (w value rest : Chars) → IsLiteral byte form w value → Covered (w ++ rest) (step e dot (w ++ rest)) (literal_kind byte form value) (length w)
+literal_covers e dot byte form w value rest lit =
+    subst (λ p. Covered (w ++ rest) p (literal_kind byte form value) (length w)) (sym (literal_found e dot byte form w value rest lit))
+    (pick (λ p. Covered (w ++ rest) p (literal_kind byte form value) (length w)) (starts is_start rest) _ _ (λ s. tt) (λ s. (omega arith, λ same. refl)))

@@ -108,13 +108,13 @@ three_punct a b c h = elim (or_cases ((a == 60 && b == 60 && c == 61) || (a == 6
 
 -- ---- the punctuation by its length
 
-data Shape : Chars → Type 0 where
+pub data Shape : Chars → Type 0 where
   under : Shape (95 ∷ [])
   one : {a : ℕ} → is_punct1 a ≡ true → Shape (a ∷ [])
   two : {a b : ℕ} → is_punct2 a b ≡ true → is_punct1 a ≡ true → Shape (a ∷ b ∷ [])
   three : {a b c : ℕ} → is_punct3 a b c ≡ true → is_punct1 a ≡ true → Shape (a ∷ b ∷ c ∷ [])
 
-shape_of : (w : Chars) → is_among punctuation w ≡ true → Shape w
+pub shape_of : (w : Chars) → is_among punctuation w ≡ true → Shape w
 shape_of w h =
     any_of Shape w punctuation (
       one refl,
@@ -265,10 +265,10 @@ apart c low w d q s b = record { word = no_start c low w; digit = d; quote = q; 
 pub punct_apart : (c : ℕ) → is_punct1 c ≡ true → Apart c
 punct_apart c h = apart c (grind (arith, nat_tests)) (grind (arith, nat_tests)) (grind (arith, nat_tests)) (grind (arith, nat_tests)) (grind (arith, nat_tests)) (grind (arith, nat_tests))
 
-open_apart : (c : ℕ) → is_open c ≡ true → Apart c
+pub open_apart : (c : ℕ) → is_open c ≡ true → Apart c
 open_apart c h = apart c (grind (arith, nat_tests)) (grind (arith, nat_tests)) (grind (arith, nat_tests)) (grind (arith, nat_tests)) (grind (arith, nat_tests)) (grind (arith, nat_tests))
 
-close_apart : (c : ℕ) → is_close c ≡ true → Apart c
+pub close_apart : (c : ℕ) → is_close c ≡ true → Apart c
 close_apart c h = apart c (grind (arith, nat_tests)) (grind (arith, nat_tests)) (grind (arith, nat_tests)) (grind (arith, nat_tests)) (grind (arith, nat_tests)) (grind (arith, nat_tests))
 
 slashes : (c : ℕ) (cs : Chars) (d : ℕ) → (c == 47) ≡ true → (first cs == d) ≡ true → 0 < d → (rest : Chars) × (c ∷ cs ≡ 47 ∷ d ∷ rest)

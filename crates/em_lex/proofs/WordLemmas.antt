@@ -70,7 +70,7 @@ quoted_single e = cc
 raw_single : {n : ℕ} → ◌≡◌ {A = Form} (Raw n) Single → ⊥
 raw_single e = cc
 
-true_false : true ≡ false → ⊥
+pub true_false : true ≡ false → ⊥
 true_false e = impossible (sym e)
 
 reserved34 : (w : Chars) → bytes_eq w (codes "b") ≡ false → bytes_eq w (codes "r") ≡ false → bytes_eq w (codes "br") ≡ false → is_reserved w 34 ≡ true
@@ -138,7 +138,7 @@ free_name name h = four (bytes_eq name (codes "crate")) (bytes_eq name (codes "s
     four false false false true h = h
     four false false false false h = h
 
-name_free : (name : List ℕ) → is_never_raw name ≡ false → not_raw name ≡ false
+pub name_free : (name : List ℕ) → is_never_raw name ≡ false → not_raw name ≡ false
 name_free name h = four (bytes_eq name (codes "crate")) (bytes_eq name (codes "self")) (bytes_eq name (codes "super")) (bytes_eq name (codes "Self")) h
   where
     four : (a b c d : Bool) → (a || (b || (c || (d || false)))) ≡ false → (a || b || c || d) ≡ false
@@ -255,7 +255,7 @@ word_holds e dot c cs h = whole (passed is_xid_continue cs)
 -- ---- what stands there is found
 
 -- a token at the opening of a literal is longer than the opening
-abbrev Far : ℕ → Piece → Type 0
+abbrev pub Far : ℕ → Piece → Type 0
 Far at (Gap n doc) = ⊥
 Far at (Took kind n) = at < n
 Far at (Bad kind place) = Unit {0}
@@ -269,7 +269,7 @@ read_far : (least : ℕ) (byte : Bool) (form : Form) (at : ℕ) (body : Chars) (
 read_far least byte form at body len r None h = h
 read_far least byte form at body len r (Some p) h = tt
 
-literal_far : (byte : Bool) (form : Form) (at : ℕ) (cs : Chars) → Far at (literal_step byte form at cs)
+pub literal_far : (byte : Bool) (form : Form) (at : ℕ) (cs : Chars) → Far at (literal_step byte form at cs)
 unfolding literal_step
 literal_far byte form at cs = here (close_len byte form cs)
   where
@@ -288,7 +288,7 @@ raw_far : (cs : Chars) → Far 1 (raw_word cs)
 raw_far cs =
     pick (Far 1) (starts_word cs && not (bytes_eq (take (run cs) cs) (codes "_") || not_raw (name_of (take (run cs) cs)))) _ _ (λ t. omega arith) (λ t. tt)
 
-hash_far : (byte : Bool) (at : ℕ) (cs : Chars) → at ≤ 2 → (byte ≡ false → at ≡ 1) → Far at (hash_step byte at cs)
+pub hash_far : (byte : Bool) (at : ℕ) (cs : Chars) → at ≤ 2 → (byte ≡ false → at ≡ 1) → Far at (hash_step byte at cs)
 hash_far byte at cs h k =
     pick (Far at) (get_or cs (prefix_len hash cs) 0 == 34) _ _
     (λ t. nearer (literal_step byte (Raw (prefix_len hash cs)) (at + prefix_len hash cs + 1) (drop (prefix_len hash cs + 1) cs)) (literal_far byte (Raw (prefix_len hash cs)) (at + prefix_len hash cs + 1) (drop (prefix_len hash cs + 1) cs)))
@@ -360,7 +360,7 @@ word_covers e dot (c ∷ v) rest i = whole (passed is_xid_continue (v ++ rest))
         (plain_covers ((c ∷ v) ++ rest) (c ∷ v) (c ∷ p.front) i (record { short = omega (arith, long); same = λ e. ap (λ x. c ∷ x) (same_front v p.front rest p.rest p.parts (omega (arith, e))).0 })))
 
 -- a character that begins a word is none that doesn't
-apart : (c d : ℕ) → is_start c ≡ true → is_start d ≡ false → (c == d) ≡ false
+pub apart : (c d : ℕ) → is_start c ≡ true → is_start d ≡ false → (c == d) ≡ false
 apart c d h k = by_test _ (c == d) (λ t. absurd (both_ways _ k (subst (λ x. is_start x ≡ true) (eqb-true c d t) h))) (λ t. t)
 
 -- `_` alone is found, unless a longer token or a fault is

@@ -21,12 +21,14 @@ pub fn list_or_fault()
 {}
 
 /// The text of 2015 in which chosen words are raw has the same tokens in 2018, with those words raw and all places moved.
+#[tactic(auto, using(crate::proofs::Marked::marked_lexes))]
 pub fn marked_text_lexes()
     ensures { MarkedLexes }
 {}
 
 /// The tokens of a text lie in it in order, each with the bytes of its span, and cut no character. What lies between them
 /// is whitespace and comments alone, by the definition of `Lexes`.
+#[tactic(auto, using(crate::proofs::Places::tokens_in_text))]
 pub fn tokens_lie_in_text()
     ensures { TokensInText }
 {}
