@@ -32,7 +32,8 @@ reserves E2018 = false
 reserves E2021 = true
 
 -- a word directly before this character is a reserved prefix (Reference, "Reserved prefixes"): before `"` unless it is
--- `b`, `r` or `br`, before `'` unless it is `b`, and before `#` unless it is `r` or `br`
+-- `b`, `r` or `br`, before `'` unless it is `b`, and before `#` unless it is `r` or `br`. The Reference also has `c` and
+-- `cr`: this profile has no C strings
 abbrev pub is_reserved : Chars → ℕ → Bool
 is_reserved w c =
     (c == 34 && not (bytes_eq w (codes "b") || bytes_eq w (codes "r") || bytes_eq w (codes "br")))
@@ -72,7 +73,8 @@ bad_unit Single c = if c == 92 then BadEscape else BadCharacter
 bad_unit (Raw n) c = BadCharacter
 
 -- a fault of the text that stands at its front, or, by its offset in characters, inside a literal that begins there;
--- the literal need not be well formed
+-- the literal need not be well formed. A `#` directly behind a lifetime is a fault in each edition, since this profile
+-- has no raw lifetimes; the Reference has it so from 2021 on
 pub data Fault (edition : Edition) (dot : Bool) (text : Chars) (kind : LexKind) (at : ℕ) : Type 0 where
   unknown : (c : ℕ) (cs : Chars) → text ≡ c ∷ cs → begins_nothing c ≡ true → kind ≡ BadCharacter → at ≡ 0 → Fault edition dot text kind at
   comment : (cs : Chars) → text ≡ 47 ∷ 42 ∷ cs → ((left : Chars) → Within 0 cs left → ⊥) → kind ≡ Unclosed → at ≡ 0 → Fault edition dot text kind at

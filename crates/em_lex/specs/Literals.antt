@@ -8,6 +8,7 @@ use Rattle.em_lex.specs.declared.piece.Form.{Form}
 use Rattle.em_lex.specs.declared.piece.Form.TheVariants.{Quoted, Single, Raw}
 use Rattle.em_lex.specs.Characters.{Chars, starts, not_underscore}
 
+-- so many `#`, in this profile any number (the Reference has at most 255)
 abbrev pub hashes : ℕ → Chars
 hashes zero = []
 hashes (suc n) = 35 ∷ hashes n

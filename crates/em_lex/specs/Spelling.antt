@@ -27,7 +27,7 @@ opening_delimiters = codes "(" ∷ codes "[" ∷ codes "{" ∷ []
 abbrev pub closing_delimiters : List Chars
 closing_delimiters = codes ")" ∷ codes "]" ∷ codes "}" ∷ []
 
--- Reference, "Punctuation". That `_` alone is one, and no identifier, is the Reference's too ("Identifiers")
+-- Reference, "Punctuation". That `_` alone is one is this project's own choice: the Reference has it among the keywords
 abbrev pub punctuation : List Chars
 punctuation =
     codes "+" ∷ codes "-" ∷ codes "*" ∷ codes "/" ∷ codes "%" ∷ codes "^" ∷ codes "!" ∷ codes "&" ∷ codes "|"

@@ -25,7 +25,7 @@ abbrev pub begins_comment : Chars → Bool
 begins_comment cs = begins (codes "//") cs || begins (codes "/*") cs
 
 -- a character of whitespace, a line comment up to its line's end, or a block comment, before what is left of the text;
--- `doc` says whether it is a doc comment
+-- `doc` says whether it is a doc comment. In this profile a doc comment may hold a CR
 pub data IsTrivia (w : Chars) (doc : Bool) (left : Chars) : Type 0 where
   blank : (c : ℕ) → w ≡ c ∷ [] → is_blank c ≡ true → doc ≡ false → IsTrivia w doc left
   line : (cs : Chars) → w ≡ 47 ∷ 47 ∷ cs → list_all not_line_feed cs ≡ true → starts not_line_feed left ≡ false → doc ≡ is_doc w → IsTrivia w doc left
