@@ -1,44 +1,94 @@
--- Which tokens a text has.
-use Rattle.std.specs.Prelude.{◌≡◌, ℕ, ◌+◌, true, false, List, [], ◌∷◌, ◌++◌, drop, length, codes, if◌then◌else◌}
-use Rattle.std.specs.List.{list_all, list_any}
-use Rattle.std.specs.Str.{bytes_eq}
+-- Which tokens a text has, and which is its first fault.
+use Rattle.std.specs.Prelude.{◌≡◌, ◌<◌, ◌⊎◌, ℕ, ◌+◌, Bool, true, false, ◌||◌, if◌then◌else◌, List, [], ◌∷◌, ◌++◌, length, take, sum_by, encode_utf8_all}
+use Rattle.std.specs.Char.{len_utf8}
+use Rattle.std.specs.Str.{all_scalars, IsUtf8, IsValidUpTo, bytes_eq}
 use Rattle.em_base.specs.declared.token.Token.{Token}
 use Rattle.em_base.specs.declared.token.TokenKind.{TokenKind}
-use Rattle.em_base.specs.declared.token.TokenKind.TheVariants.{Ident, Int, Str, Open, Close, Punct}
 use Rattle.em_base.specs.declared.edition.Edition.{Edition}
-use Rattle.em_lex.specs.Spelling.{is_trivia, is_word, is_raw_word, is_number, is_literal, opening, closing, IsLongest}
+use Rattle.em_lex.specs.declared.error.LexKind.{LexKind}
+use Rattle.em_lex.specs.declared.error.LexKind.TheVariants.{NotUtf8}
+use Rattle.em_lex.specs.Characters.{Chars}
+use Rattle.em_lex.specs.Trivia.{IsTrivia, begins_comment}
+use Rattle.em_lex.specs.Spelling.{Longest}
+use Rattle.em_lex.specs.Faults.{Fault, First}
 
--- the kind of a spelling, where `_` alone is punctuation (Reference, "Punctuation")
-abbrev pub kind_of : List ℕ → TokenKind
-kind_of w =
-    if is_raw_word w then Ident (drop 2 w) true
-    else (if bytes_eq w (codes "_") then Punct
-    else (if is_word w then Ident w false
-    else (if is_number w then Int
-    else (if is_literal w then Str
-    else (if list_any (bytes_eq w) opening then Open
-    else (if list_any (bytes_eq w) closing then Close else Punct))))))
+-- a part of a text: whitespace or a comment, and whether it is a doc comment; or a token
+pub data Part : Type 0 where
+  trivia : Chars → Bool → Part
+  token : Chars → TokenKind → Part
 
--- the token of a spelling at an offset of a file
-abbrev pub token_at : ℕ → Edition → ℕ → List ℕ → Token
-token_at file edition offset w = record {
-  kind = kind_of w;
-  text = w;
-  span = record { file = file; start = offset; end = offset + length w };
-  edition = edition;
-  marks = [];
-  doc = false;
-}
+abbrev pub spelled : Part → Chars
+spelled (trivia w doc) = w
+spelled (token w kind) = w
 
--- a text begins with trivia and a longest spelling, whose token this is; then comes the rest
-pub record Begins (file : ℕ) (edition : Edition) (offset : ℕ) (text : List ℕ) (t : Token) (gap w rest : List ℕ) : Type 0 where
-  pub parts : text ≡ gap ++ (w ++ rest)
-  pub trivia : list_all is_trivia gap ≡ true
-  pub longest : IsLongest (w ++ rest) w
-  pub token : t ≡ token_at file edition (offset + length gap) w
+abbrev pub is_dot : Part → Bool
+is_dot (trivia w doc) = false
+is_dot (token w kind) = bytes_eq w (46 ∷ [])
 
--- from an offset on, longest spellings with trivia between them tile the text in order, and the tokens are those of the spellings
-abbrev pub Lexes : ℕ → Edition → ℕ → List ℕ → List Token → Type 0
-Lexes file edition offset text [] = list_all is_trivia text ≡ true
-Lexes file edition offset text (t ∷ ts) =
-    (gap : List ℕ) × (w : List ℕ) × (rest : List ℕ) × Begins file edition offset text t gap w rest × Lexes file edition (offset + length gap + length w) rest ts
+-- a token stands at the front of a text: the longest one, no comment begins there, and no fault stands there
+pub record TokenAt (edition : Edition) (dot : Bool) (w left : Chars) (kind : TokenKind) : Type 0 where
+  pub longest : Longest dot w left kind
+  pub no_comment : begins_comment (w ++ left) ≡ false
+  pub no_fault : (fault : LexKind) (at : ℕ) → Fault edition dot (w ++ left) fault at → ⊥
+
+-- a part stands before what is left of the text
+abbrev pub PartAt : Edition → Bool → Part → Chars → Type 0
+PartAt edition dot (trivia w doc) left = IsTrivia w doc left
+PartAt edition dot (token w kind) left = TokenAt edition dot w left kind
+
+-- parts that tile a text in order, up to what is left of it; `dot` says that the text stands directly behind a `.` token,
+-- `end` that what is left does
+abbrev pub Tiles : Edition → Bool → Chars → List Part → Bool → Chars → Type 0
+Tiles edition dot text [] end left = (dot ≡ end) × (text ≡ left)
+Tiles edition dot text (p ∷ ps) end left = (rest : Chars) × (text ≡ spelled p ++ rest) × PartAt edition dot p rest × Tiles edition (is_dot p) rest ps end left
+
+-- how many bytes the characters take
+abbrev pub byte_len : Chars → ℕ
+byte_len cs = sum_by len_utf8 cs
+
+-- the tokens among the parts, from an offset of a file on; `doc` says that a doc comment stands in the trivia before
+abbrev pub tokens_of : ℕ → Edition → ℕ → Bool → List Part → List Token
+tokens_of file edition offset doc [] = []
+tokens_of file edition offset doc (trivia w is ∷ ps) = tokens_of file edition (offset + byte_len w) (doc || is) ps
+tokens_of file edition offset doc (token w kind ∷ ps) =
+    record {
+      kind = kind;
+      text = encode_utf8_all w;
+      span = record { file = file; start = offset; end = offset + byte_len w };
+      edition = edition;
+      marks = [];
+      doc = doc;
+    } ∷ tokens_of file edition (offset + byte_len w) false ps
+
+-- the text that characters are, where a U+FEFF in front is no part of what is lexed (Reference, "Byte order mark removal")
+pub record IsText (bytes : List ℕ) (mark text : Chars) : Type 0 where
+  pub scalars : all_scalars (mark ++ text) ≡ true
+  pub encoded : encode_utf8_all (mark ++ text) ≡ bytes
+  pub marked : (mark ≡ 0xFEFF ∷ []) ⊎ ((mark ≡ []) × ((cs : Chars) → text ≡ 0xFEFF ∷ cs → ⊥))
+
+-- tokens with trivia between them tile the text
+pub record Lexes (file : ℕ) (edition : Edition) (bytes : List ℕ) (ts : List Token) : Type 0 where
+  pub mark : Chars
+  pub text : Chars
+  pub parts : List Part
+  pub dot : Bool
+  pub is_text : IsText bytes mark text
+  pub tiles : Tiles edition false text parts dot []
+  pub tokens : ts ≡ tokens_of file edition (byte_len mark) false parts
+
+-- the first fault of a text that is UTF-8, at a place that parts reach
+pub record Fails (edition : Edition) (bytes : List ℕ) (kind : LexKind) (offset : ℕ) : Type 0 where
+  pub mark : Chars
+  pub text : Chars
+  pub parts : List Part
+  pub dot : Bool
+  pub left : Chars
+  pub at : ℕ
+  pub is_text : IsText bytes mark text
+  pub tiles : Tiles edition false text parts dot left
+  pub first : First edition dot left kind at
+  pub place : offset + byte_len left ≡ byte_len (mark ++ text) + byte_len (take at left)
+
+-- the first fault of a text: that it is no UTF-8, at the end of its longest front that is, and else its first fault from the left
+abbrev pub FirstFault : Edition → List ℕ → LexKind → ℕ → Type 0
+FirstFault edition bytes kind offset = (¬ (IsUtf8 bytes) × (kind ≡ NotUtf8) × IsValidUpTo bytes offset) ⊎ Fails edition bytes kind offset

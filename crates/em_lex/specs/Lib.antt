@@ -1,6 +1,12 @@
+pub mod Characters
+pub mod Trivia
+pub mod Literals
+pub mod Numbers
 pub mod Spelling
+pub mod Faults
 pub mod Lexing
 pub mod Answers
 pub mod Marking
 pub mod Laws
 pub mod Scan
+pub mod Walk

@@ -1,71 +1,69 @@
--- The spellings of tokens (Reference, "Tokens" and "Identifiers"), as far as they are built.
-use Rattle.std.specs.Prelude.{◌≡◌, ◌≤◌, ◌⊎◌, ℕ, Bool, true, false, not, ◌&&◌, ◌||◌, ◌==◌, nat_le, nat_eq, List, [], ◌∷◌, ◌++◌, length, drop, codes}
-use Rattle.std.specs.List.{starts_with, list_all, list_any}
+-- The spellings of each kind of token (Reference, "Tokens"), as sets.
+use Rattle.std.specs.Prelude.{◌≡◌, ◌≤◌, ◌⊎◌, ℕ, Bool, true, false, List, [], ◌∷◌, ◌++◌, length, codes, encode_utf8_all}
+use Rattle.std.specs.List.{list_any}
 use Rattle.std.specs.Str.{bytes_eq}
+use Rattle.em_base.specs.Names.{is_word, is_identifier}
+use Rattle.em_base.specs.declared.token.TokenKind.{TokenKind}
+use Rattle.em_base.specs.declared.token.TokenKind.TheVariants.{Ident, Lifetime, Int, Char, Byte, Str, ByteStr, Open, Close, Punct}
+use Rattle.em_lex.specs.Characters.{Chars, name_of}
+use Rattle.em_lex.specs.declared.piece.Form.{Form}
+use Rattle.em_lex.specs.declared.piece.Form.TheVariants.{Quoted, Single, Raw}
+use Rattle.em_lex.specs.Literals.{IsLiteral}
+use Rattle.em_lex.specs.Numbers.{IsInt}
 
--- whitespace: a space or a line feed
-abbrev pub is_trivia : ℕ → Bool
-is_trivia b = (b == 32) || (b == 10)
-
-abbrev pub is_digit : ℕ → Bool
-is_digit b = nat_le 48 b && nat_le b 57
-
-abbrev pub is_word_start : ℕ → Bool
-is_word_start b = (nat_le 97 b && nat_le b 122) || (nat_le 65 b && nat_le b 90) || (b == 95)
-
-abbrev pub is_word_byte : ℕ → Bool
-is_word_byte b = is_word_start b || is_digit b
-
--- a letter or `_`, and then letters, digits and `_`
-abbrev pub is_word : List ℕ → Bool
-is_word [] = false
-is_word (b ∷ bs) = is_word_start b && list_all is_word_byte bs
-
--- the words of which there is no raw form
+-- the names of which there is no raw form (Reference, "Raw identifiers")
 abbrev pub never_raw : List (List ℕ)
-never_raw = codes "_" ∷ codes "crate" ∷ codes "self" ∷ codes "super" ∷ codes "Self" ∷ []
+never_raw = codes "crate" ∷ codes "self" ∷ codes "super" ∷ codes "Self" ∷ []
+
+abbrev pub is_among : List (List ℕ) → List ℕ → Bool
+is_among list w = list_any (bytes_eq w) list
 
 abbrev pub is_never_raw : List ℕ → Bool
-is_never_raw w = list_any (bytes_eq w) never_raw
+is_never_raw name = is_among never_raw name
 
--- `r#` and a word
-abbrev pub is_raw_word : List ℕ → Bool
-is_raw_word w = starts_with nat_eq w (codes "r#") && (is_word (drop 2 w) && not (is_never_raw (drop 2 w)))
+abbrev pub opening_delimiters : List Chars
+opening_delimiters = codes "(" ∷ codes "[" ∷ codes "{" ∷ []
 
--- one decimal digit or more
-abbrev pub is_number : List ℕ → Bool
-is_number [] = false
-is_number (b ∷ bs) = is_digit b && list_all is_digit bs
+abbrev pub closing_delimiters : List Chars
+closing_delimiters = codes ")" ∷ codes "]" ∷ codes "}" ∷ []
 
--- the string literal `"{}"`
-abbrev pub is_literal : List ℕ → Bool
-is_literal w = bytes_eq w (codes "\"{}\"")
+-- Reference, "Punctuation". That `_` alone is one is this project's own choice: the Reference has it among the keywords
+abbrev pub punctuation : List Chars
+punctuation =
+    codes "+" ∷ codes "-" ∷ codes "*" ∷ codes "/" ∷ codes "%" ∷ codes "^" ∷ codes "!" ∷ codes "&" ∷ codes "|"
+    ∷ codes "&&" ∷ codes "||" ∷ codes "<<" ∷ codes ">>" ∷ codes "+=" ∷ codes "-=" ∷ codes "*=" ∷ codes "/="
+    ∷ codes "%=" ∷ codes "^=" ∷ codes "&=" ∷ codes "|=" ∷ codes "<<=" ∷ codes ">>=" ∷ codes "=" ∷ codes "==" ∷ codes "!="
+    ∷ codes ">" ∷ codes "<" ∷ codes ">=" ∷ codes "<=" ∷ codes "@" ∷ codes "_" ∷ codes "." ∷ codes ".." ∷ codes "..."
+    ∷ codes "..=" ∷ codes "," ∷ codes ";" ∷ codes ":" ∷ codes "::" ∷ codes "->" ∷ codes "<-" ∷ codes "=>" ∷ codes "#"
+    ∷ codes "$" ∷ codes "?" ∷ codes "~" ∷ []
 
-abbrev pub opening : List (List ℕ)
-opening = codes "(" ∷ codes "{" ∷ []
+-- the spelling of a raw identifier with this name
+pub record IsRawWord (w : Chars) (name : List ℕ) : Type 0 where
+  pub word : Chars
+  pub parts : w ≡ 114 ∷ 35 ∷ word
+  pub identifier : is_identifier word ≡ true
+  pub name_is : name ≡ name_of word
+  pub free : is_never_raw name ≡ false
 
-abbrev pub closing : List (List ℕ)
-closing = codes ")" ∷ codes "}" ∷ []
+-- a literal of a string, raw or not
+abbrev pub IsString : Bool → Chars → Chars → Type 0
+IsString byte w value = IsLiteral byte Quoted w value ⊎ ((n : ℕ) × IsLiteral byte (Raw n) w value)
 
-abbrev pub punctuation : List (List ℕ)
-punctuation = codes "=" ∷ codes ";" ∷ codes "!" ∷ codes "," ∷ []
+-- the characters spell a token of the kind; `dot` says that they stand directly behind a `.` token
+abbrev pub Spells : Bool → Chars → TokenKind → Type 0
+Spells dot w (Ident name true) = IsRawWord w name
+Spells dot w (Ident name false) = (is_identifier w ≡ true) × (name ≡ name_of w)
+Spells dot w (Lifetime name) = (word : Chars) × (w ≡ 39 ∷ word) × (is_word word ≡ true) × (name ≡ name_of word)
+Spells dot w (Int value suffix) = IsInt dot w value suffix
+Spells dot w (Char value) = IsLiteral false Single w (value ∷ [])
+Spells dot w (Byte value) = IsLiteral true Single w (value ∷ [])
+Spells dot w (Str value) = (vs : Chars) × IsString false w vs × (value ≡ encode_utf8_all vs)
+Spells dot w (ByteStr value) = IsString true w value
+Spells dot w Open = is_among opening_delimiters w ≡ true
+Spells dot w Close = is_among closing_delimiters w ≡ true
+Spells dot w Punct = is_among punctuation w ≡ true
 
-abbrev pub is_spelling : List ℕ → Bool
-is_spelling w = is_word w || (is_raw_word w || (is_number w || (is_literal w || (list_any (bytes_eq w) opening || (list_any (bytes_eq w) closing || list_any (bytes_eq w) punctuation)))))
-
--- the punctuation that goes on behind a built one
-abbrev pub compound : List (List ℕ)
-compound = codes "==" ∷ codes "!=" ∷ []
-
--- a form that begins with a spelling and is a token that is not built, or reserved (Reference, "Tokens"): `r#` and a word
--- that has no raw form, a literal with a suffix, a word with a `"` directly behind it, and compound punctuation
-pub data Unbuilt (v : List ℕ) : Type 0 where
-  reserved : (x : List ℕ) → v ≡ codes "r#" ++ x → is_never_raw x ≡ true → Unbuilt v
-  suffixed : (x y : List ℕ) → v ≡ x ++ y → (is_number x || is_literal x) ≡ true → is_word y ≡ true → Unbuilt v
-  prefixed : (x : List ℕ) → v ≡ x ++ codes "\"" → is_word x ≡ true → Unbuilt v
-  longer : list_any (bytes_eq v) compound ≡ true → Unbuilt v
-
--- a spelling at the front of a text than which no spelling and no unbuilt form there is longer
-pub record IsLongest (text w : List ℕ) : Type 0 where
-  pub spelling : is_spelling w ≡ true
-  pub longest : (v rest : List ℕ) → text ≡ v ++ rest → (is_spelling v ≡ true) ⊎ Unbuilt v → length v ≤ length w
+-- the token at the front of a text, which no other could be longer than
+pub record Longest (dot : Bool) (w left : Chars) (kind : TokenKind) : Type 0 where
+  pub spells : Spells dot w kind
+  pub longest : (v rest : Chars) (other : TokenKind) → w ++ left ≡ v ++ rest → Spells dot v other → length v ≤ length w

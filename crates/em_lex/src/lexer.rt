@@ -1,73 +1,188 @@
-ghost use Rattle.std.specs.Prelude.{◌≡◌, ◌+◌, ◌-◌, ◌^◌, ◌<◌, ◌≤◌, true, length, min, IfOk, IfErr};
-ghost use Rattle.em_lex.specs.Spelling.{is_spelling};
-ghost use Rattle.em_lex.specs.Lexing.{Lexes, token_at};
-ghost use Rattle.em_lex.specs.Answers.{LexRefused};
+ghost use Rattle.std.specs.Prelude.{◌≡◌, ◌+◌, ◌-◌, ◌*◌, ◌^◌, ◌<◌, ◌≤◌, length, chars, drop, min, IfOk, IfErr, OnOk};
+ghost use Rattle.std.specs.Prelude.{[], ◌∷◌};
+ghost use Rattle.std.specs.Str.{bytes_eq};
+ghost use Rattle.em_lex.specs.Lexing.{Lexes, byte_len};
+ghost use Rattle.em_lex.specs.Answers.{Refused, most};
+ghost use Rattle.em_lex.specs.Walk.{token_at, behind_trivia, behind_token, piece_within, Kept, RefusedAt, LexesFrom, RefusedFrom, mark_len, RefusedText};
 
+use crate::characters::{char_at, front, is_same, text_of};
 use crate::counter::Lexings;
-use crate::spelling::{first_spelling, kind_of_spelling, trivia_run};
-use em_base::{Edition, List, NoMemory, Span, Text, Token, Tokens, rest_from};
+use crate::error::{LexError, LexKind};
+use crate::piece::Piece;
+use crate::scan::step;
+use em_base::{Edition, Limit, List, NoMemory, Span, Text, Token, TokenKind, Tokens, rest_from};
 use std::alloc::Global;
-use thiserror::Error;
 
-/// What is wrong with a text.
-#[derive(Clone, Copy, Debug, Error, PartialEq, Eq)]
-pub enum LexKind {
-    #[error("a form that is not built")]
-    Unbuilt,
-}
+/// The greatest length of a text: 4 MiB.
+const MOST: usize = 4_194_304;
 
-/// Why a text has no tokens.
-#[derive(Clone, Copy, Debug, Error, PartialEq, Eq)]
-pub enum LexError {
-    #[error("out of memory")]
-    NoMemory,
-    #[error("at byte {offset}: {kind}")]
-    At { offset: u32, kind: LexKind },
-}
-
-impl From<NoMemory> for LexError {
-    ghost use Rattle.std.specs.Prelude.{◌≡◌};
-    ghost use Rattle.em_lex.specs.declared.lexer.LexError.TheVariants.{NoMemory as out_of_memory};
-
-    ghost from_gives = { λ _ e. e ≡ out_of_memory };
-
-    fn from(_error: NoMemory) -> LexError {
-        LexError::NoMemory
+/// How many bytes the characters take.
+fn byte_len(cs: &[char]) -> usize
+    requires { length cs.now < 2 ^ 32 }
+    ensures value { result ≡ byte_len cs.now }
+    ensures within { result ≤ 4 * length cs.now }
+{
+    let mut len = 0usize;
+    for c in cs {
+        len += c.len_utf8();
     }
+    len
 }
 
-/// The token of a spelling.
-#[tactic(auto, using(crate::proofs::Ascii::spelling_is_ascii, crate::proofs::SpelledKinds::kind_scanned))]
-fn token_of(
-    alloc: Global,
+/// Where the lexer stands in a file: the offset in bytes, whether a doc comment stands in the trivia before, and whether
+/// the token directly before is `.`.
+#[derive(Clone, Copy, Debug, PartialEq, Eq)]
+struct Place {
     file: u32,
     edition: Edition,
     start: u32,
-    spelling: &[u8],
-) -> Result<Token, NoMemory>
-    requires fits { start + length spelling.now < 2 ^ 32 }
-    requires spelling { is_spelling spelling.now ≡ true }
-    ensures { IfOk result (λ t. t ≡ token_at file edition start spelling.now) }
+    doc: bool,
+    dot: bool,
+}
+
+/// The token of a word at a place.
+#[tactic(auto, using(crate::proofs::WalkLemmas::bytes))]
+fn token_of(alloc: Global, place: Place, kind: TokenKind, word: &[char]) -> Result<Token, NoMemory>
+    requires fits { place.start + byte_len word.now < 2 ^ 32 }
+    ensures { IfOk result (λ t. t ≡ token_at place.file place.edition place.start place.doc kind word.now) }
 {
+    let text = Text::from_string(text_of(alloc, word)?)?;
+    let end = place.start + byte_len(word) as u32;
     Ok(Token {
-        kind: kind_of_spelling(alloc, spelling)?,
-        text: Text::from_ascii(alloc, spelling)?,
+        kind,
+        text,
         span: Span {
-            file,
-            start,
-            end: start + spelling.len() as u32,
+            file: place.file,
+            start: place.start,
+            end,
         },
-        edition,
+        edition: place.edition,
         marks: List::new(alloc),
-        doc: false,
+        doc: place.doc,
     })
+}
+
+/// The place behind trivia.
+#[tactic(auto, using(crate::proofs::WalkLemmas::bytes))]
+fn behind_trivia(place: Place, word: &[char], doc: bool) -> Place
+    requires fits { place.start + byte_len word.now < 2 ^ 32 }
+    ensures { result ≡ behind_trivia place (byte_len word.now) doc }
+{
+    Place {
+        start: place.start + byte_len(word) as u32,
+        doc: place.doc || doc,
+        dot: false,
+        ..place
+    }
+}
+
+/// The place behind a token.
+#[tactic(auto, using(crate::proofs::WalkLemmas::bytes))]
+fn behind_token(place: Place, word: &[char]) -> Place
+    requires fits { place.start + byte_len word.now < 2 ^ 32 }
+    ensures { result ≡ behind_token place (byte_len word.now) (bytes_eq word.now (46 ∷ [])) }
+{
+    Place {
+        start: place.start + byte_len(word) as u32,
+        doc: false,
+        dot: is_same(word, &['.']),
+        ..place
+    }
+}
+
+/// Puts the token of a piece at the end, if it is one, and gives the place behind the piece, and its length.
+#[tactic(auto, using(crate::proofs::WalkLemmas::bytes))]
+fn keep(
+    alloc: Global,
+    list: &mut List<Token>,
+    place: Place,
+    piece: Piece,
+    rest: &[char],
+) -> Result<(Place, usize), LexError>
+    requires within { piece_within piece rest.now }
+    requires fits { place.start + byte_len rest.now < 2 ^ 32 }
+    ensures kept { IfOk result (λ p. Kept list.old list.new place piece rest.now p.0 p.1) }
+    ensures refused { IfErr result (λ e. RefusedAt place piece rest.now e) }
+{
+    match piece {
+        Piece::Trivia { len, doc } => Ok((behind_trivia(place, front(rest, len), doc), len)),
+        Piece::Token { kind, len } => {
+            let word = front(rest, len);
+            list.push(token_of(alloc, place, kind, word)?)?;
+            Ok((behind_token(place, word), len))
+        }
+        Piece::Fault { kind, at } => Err(LexError::At {
+            offset: place.start + byte_len(front(rest, at)) as u32,
+            kind,
+        }),
+    }
+}
+
+/// The tokens of characters that begin at an offset of a file.
+fn lex_chars(
+    alloc: Global,
+    file: u32,
+    edition: Edition,
+    offset: u32,
+    cs: &[char],
+) -> Result<List<Token>, LexError>
+    requires fits { offset + byte_len cs.now < 2 ^ 31 }
+    ensures tokens { IfOk result (λ list. LexesFrom file edition offset cs.now list) }
+    ensures refused { IfErr result (λ e. RefusedFrom edition offset cs.now e) }
+{
+    let mut list = List::new(alloc);
+    let mut place = Place {
+        file,
+        edition,
+        start: offset,
+        doc: false,
+        dot: false,
+    };
+    let mut at = 0usize;
+    'pieces: while at < cs.len() {
+        let rest = rest_from(cs, at);
+        let piece = step(alloc, edition, place.dot, rest)?;
+        let (next, len) = keep(alloc, &mut list, place, piece, rest)?;
+        place = next;
+        at += len;
+    }
+    Ok(list)
+}
+
+fn chars_of(alloc: Global, text: &str) -> Result<Vec<char>, NoMemory>
+    ensures { IfOk result (λ v. v.items ≡ chars text.now) }
+{
+    Ok(text.chars().collect(alloc)?)
+}
+
+/// How many characters a byte order mark in front is.
+fn mark_len(cs: &[char]) -> usize
+    ensures mark { result ≡ mark_len cs.now }
+    ensures within { result ≤ length cs.now }
+{
+    if char_at(cs, 0) == '\u{feff}' { 1 } else { 0 }
+}
+
+/// The tokens of a text.
+fn lex_text(alloc: Global, file: u32, edition: Edition, text: &str) -> Result<Tokens, LexError>
+    requires { length text.now ≤ most }
+    ensures tokens { IfOk result (λ tokens. Lexes file edition text.now tokens.list) }
+    ensures refused { IfErr result (λ e. RefusedText edition text.now e) }
+{
+    let cs = chars_of(alloc, text)?;
+    let mark = mark_len(&cs);
+    let start = byte_len(front(&cs, mark)) as u32;
+    let list = lex_chars(alloc, file, edition, start, rest_from(&cs, mark))?;
+    Ok(Tokens { list })
 }
 
 /// The tokens of a text of a file, under an edition.
 ///
-/// `Ok` gives the tokens of the whole text, with their spans in bytes. `At` comes exactly where the text has no list of
-/// tokens, at offset 0 and as `Unbuilt`, and `NoMemory` for want of memory alone. Each call, whatever it answers, raises
-/// the counter by one, unless it stands at its greatest number.
+/// `Ok` gives the tokens of the whole text, with their values, their spans in bytes, and whether a doc comment stands
+/// before each. `Limit(FileBytes)` comes exactly where the text is longer than 4 MiB, and `At` exactly where it isn't and
+/// has no list of tokens, at its first fault; `NotUtf8` is decided first, over the whole text. `NoMemory` comes for want
+/// of memory alone. Each call, whatever it answers, raises the counter by one, unless it stands at its greatest number.
+/// Takes time linear in the text.
 pub fn lex(
     alloc: Global,
     file: u32,
@@ -75,25 +190,19 @@ pub fn lex(
     bytes: &[u8],
     count: &mut Lexings,
 ) -> Result<Tokens, LexError>
-    requires { length bytes.now ≤ 4194304 }
-    ensures tokens { IfOk result (λ tokens. Lexes file edition 0 bytes.now tokens.list) }
-    ensures refused { IfErr result (LexRefused file edition bytes.now) }
+    ensures tokens { IfOk result (λ tokens. (length bytes.now ≤ most) × Lexes file edition bytes.now tokens.list) }
+    ensures refused { IfErr result (Refused edition bytes.now) }
     ensures counted { count.new ≡ min (count.old + 1) (2 ^ 64 - 1) }
 {
     count.raise();
-    let mut list = List::new(alloc);
-    let mut at = trivia_run(bytes);
-    while at < bytes.len() {
-        let spelling = first_spelling(rest_from(bytes, at));
-        if spelling.is_empty() {
-            return Err(LexError::At {
-                offset: 0,
-                kind: LexKind::Unbuilt,
-            });
-        }
-        list.push(token_of(alloc, file, edition, at as u32, spelling)?)?;
-        let end = at + spelling.len();
-        at = end + trivia_run(rest_from(bytes, end));
+    if bytes.len() > MOST {
+        return Err(LexError::Limit(Limit::FileBytes));
     }
-    Ok(Tokens { list })
+    match std::str::from_utf8(bytes) {
+        Ok(text) => lex_text(alloc, file, edition, text),
+        Err(error) => Err(LexError::At {
+            offset: error.valid_up_to() as u32,
+            kind: LexKind::NotUtf8,
+        }),
+    }
 }
