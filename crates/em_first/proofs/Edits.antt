@@ -149,17 +149,11 @@ edited_is none law file edition text ts h =
 
 pub edited_lexes : NoPartKeeps → FirstPartFirst → MarkedLexes → TokensInText → EditedLexes
 edited_lexes none law lexed lie file text ts h =
-    subst (λ (x : List ℕ). Lexes file E2018 0 x (moved is_found E2018 0 ts)) (sym (edited_is none law file E2015 text ts (lie file E2015 text ts h).ordered)) (lexed is_found file E2015 E2018 0 0 text ts (all_have_raw ts) h)
+    subst (λ (x : List ℕ). Lexes file E2018 x (moved is_found E2018 0 ts)) (sym (edited_is none law file E2015 text ts (lie file E2015 text ts h))) (lexed is_found file text ts (all_have_raw ts) h)
 
-boundary : (text : List ℕ) (offset : ℕ) → IsAscii text → is_boundary text offset ≡ true
-boundary text offset h =
-    let a : slice_index text offset < 128 = h offset in
-    let f : nat_le 128 (slice_index text offset) ≡ false = grind (arith, nat_tests) in
-    ap (λ c. not (c && nat_le (slice_index text offset) 191)) f
-
-all_lie : (offset : ℕ) (text : List ℕ) (ts : List Token) → IsAscii text → LieInOrder 0 E2015 offset text ts → All (LiesIn (text ∷ [])) (parts ts)
-all_lie offset text [] a h = All-nil (LiesIn (text ∷ []))
-all_lie offset text (t ∷ ts) a h = here (is_found t) (all_lie t.span.end text ts a h.1)
+all_lie : (offset : ℕ) (text : List ℕ) (ts : List Token) → LieInOrder 0 E2015 offset text ts → All (LiesIn (text ∷ [])) (parts ts)
+all_lie offset text [] h = All-nil (LiesIn (text ∷ []))
+all_lie offset text (t ∷ ts) h = here (is_found t) (all_lie t.span.end text ts h.1)
   where
     here : (c : Bool) → All (LiesIn (text ∷ [])) (parts ts) → All (LiesIn (text ∷ [])) (cond c (part t ∷ parts ts) (parts ts))
     here true g = All-cons (LiesIn (text ∷ [])) (part t) (parts ts) (record {
@@ -167,8 +161,8 @@ all_lie offset text (t ∷ ts) a h = here (is_found t) (all_lie t.span.end text 
       file = ap (λ (i : ℕ). slice_get (text ∷ []) i) h.0.file_is;
       ordered = (let b = h.0.some in let e : t.span.start ≤ t.span.end = omega (arith, b) in e);
       within = h.0.within;
-      starts_whole = boundary text t.span.start a;
-      ends_whole = boundary text t.span.end a;
+      starts_whole = h.0.starts_whole;
+      ends_whole = h.0.ends_whole;
     }) g
     here false g = g
 
@@ -187,6 +181,6 @@ pub findings_fit : TokensInText → FindingsFit
 findings_fit lie text ts h =
     let t = lie 0 E2015 text ts h in
     record {
-      lie = subst (All (LiesIn (text ∷ []))) (sym (all_parts_are ts)) (all_lie 0 text ts t.ascii t.ordered);
-      apart = subst (AllPairs Apart) (sym (all_parts_are ts)) (all_apart 0 (length text) (parts ts) (rising 0 0 E2015 text ts t.ordered));
+      lie = subst (All (LiesIn (text ∷ []))) (sym (all_parts_are ts)) (all_lie 0 text ts t);
+      apart = subst (AllPairs Apart) (sym (all_parts_are ts)) (all_apart 0 (length text) (parts ts) (rising 0 0 E2015 text ts t));
     }

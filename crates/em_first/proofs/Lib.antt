@@ -1,4 +1,3 @@
-pub mod Spelled
 pub mod Behind
 pub mod One
 pub mod Reading

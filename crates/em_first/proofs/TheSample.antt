@@ -1,34 +1,64 @@
 -- The sample has the first form.
-use Rattle.std.proofs.Common.{[], ◌∷◌, codes, refl, arith, lit<}
-use Rattle.em_first.specs.Form.{let_of, print_of}
-use Rattle.em_first.specs.Sample.{statements, HasSample, KeepsSample, SampleBegins, SamplePrints}
+use Rattle.std.proofs.Common.{◌≡◌, ℕ, Bool, true, false, cond, ◌&&◌, List, [], ◌∷◌, length, codes, refl, sym, ap, ◌∙◌}
+use Rattle.std.specs.Prelude.{Option, Some, None, slice_get, slice_index}
+use Rattle.em_base.specs.declared.edition.Edition.TheVariants.{E2015}
+use Rattle.em_base.specs.Words.{class_of}
+use Rattle.em_first.specs.Form.{name_in}
+use Rattle.em_first.specs.Sample.{sample, statements, HasSample, KeepsSample, SampleBegins, SamplePrints}
 use Rattle.em_first.proofs.Keeps.{keeps_core}
 
 pub has_sample : HasSample
-has_sample ts h = (
-  let_of (codes "async") (codes "41") (let_of (codes "r#async") (codes "7") (print_of (codes "async") (codes "}" ∷ []))),
-  h,
+unfolding class_of
+has_sample = (
+  _,
+  (_, _, refl, refl, (_, _, refl, refl, (_, _, refl, refl, (_, _, refl, refl, (_, _, refl, refl, refl))))),
   (
     codes "async",
-    codes "41",
     _,
-    refl,
-    refl,
-    record { some = lit< tt; decimal = refl; says = refl; small = omega arith },
+    record {
+      behind_let = _;
+      behind_name = _;
+      behind_equals = _;
+      behind_int = _;
+      is_let = (_, _, refl, refl, refl);
+      is_name = (_, refl, refl);
+      is_equals = (_, _, refl, refl, refl);
+      is_int = (_, refl, refl);
+      ends = (_, _, refl, refl, refl);
+    },
     (
-      codes "r#async",
-      codes "7",
+      codes "async",
       _,
-      refl,
-      refl,
-      record { some = lit< tt; decimal = refl; says = refl; small = omega arith },
-      (codes "async", _, refl, refl, refl, refl),
+      record {
+        behind_let = _;
+        behind_name = _;
+        behind_equals = _;
+        behind_int = _;
+        is_let = (_, _, refl, refl, refl);
+        is_name = (_, refl, refl);
+        is_equals = (_, _, refl, refl, refl);
+        is_int = (_, refl, refl);
+        ends = (_, _, refl, refl, refl);
+      },
+      (
+        codes "async",
+        _,
+        record {
+          behind_comma = _;
+          behind_name = _;
+          is_print = (_, _, refl, refl, (_, _, refl, refl, (_, _, refl, refl, (_, _, refl, refl, (_, _, refl, refl, refl)))));
+          is_name = (_, refl, refl);
+          ends = (_, _, refl, refl, (_, _, refl, refl, refl));
+        },
+        refl,
+        (_, _, refl, refl, refl),
+      ),
     ),
   ),
 )
 
 pub keeps_sample : KeepsSample
-keeps_sample ts h = keeps_core 0 ts statements (has_sample ts h)
+keeps_sample = keeps_core 0 sample statements has_sample
 
 pub sample_begins : SampleBegins
 sample_begins = refl

@@ -1,46 +1,76 @@
--- Programs of the first form, as lists of spellings.
-use Rattle.std.specs.Prelude.{◌≡◌, ◌≤◌, ◌<◌, ℕ, ◌+◌, ◌-◌, ◌*◌, Bool, true, false, not, ◌&&◌, ◌||◌, nat_eq, List, [], ◌∷◌, length, map, drop, codes, if◌then◌else◌, Option, Some, None}
-use Rattle.std.specs.List.{starts_with, list_all, list_any}
+-- Programs of the first form, as lists of tokens.
+use Rattle.std.specs.Prelude.{◌≡◌, ℕ, Bool, true, false, ◌||◌, not, nat_le, List, [], ◌∷◌, length, codes, if◌then◌else◌, Option, Some, None}
 use Rattle.std.specs.Str.{bytes_eq}
 use Rattle.em_base.specs.declared.edition.Edition.{Edition}
-use Rattle.em_base.specs.declared.edition.Edition.TheVariants.{E2015, E2018, E2021}
+use Rattle.em_base.specs.declared.int_kind.IntKind.{IntKind}
+use Rattle.em_base.specs.declared.int_kind.IntKind.TheVariants.{I8, I16, I32, I64, Isize, U8, U16, U32, U64, Usize}
 use Rattle.em_base.specs.declared.token.Token.{Token}
-use Rattle.em_base.specs.Words.{always}
-use Rattle.em_lex.specs.Spelling.{is_digit, is_word, is_raw_word}
-use Rattle.em_first.specs.Keyword.{is_taken}
+use Rattle.em_base.specs.declared.token.TokenKind.{TokenKind}
+use Rattle.em_base.specs.declared.token.TokenKind.TheVariants.{Ident, Int}
+use Rattle.em_base.specs.declared.words.Class.{Class}
+use Rattle.em_base.specs.declared.words.Class.TheVariants as class
+use Rattle.em_base.specs.Words.{class_of}
 
--- the keywords of every edition, strict and reserved (Reference, "Keywords")
-abbrev pub old_keywords : List (List ℕ)
-old_keywords = always
+abbrev pub is_keyword : Class → Bool
+is_keyword class.Keyword = true
+is_keyword class.Weak = false
+is_keyword class.Ident = false
 
--- the words that an edition takes beside them
-abbrev pub takes : Edition → List ℕ → Bool
-takes E2015 w = false
-takes E2018 w = is_taken w
-takes E2021 w = is_taken w
+-- the name that a token names: it is an identifier that is raw or no keyword of the edition
+abbrev pub name_in : Edition → TokenKind → Option (List ℕ)
+name_in edition (Ident name raw) = if raw || not (is_keyword (class_of edition name)) then Some name else None
+name_in edition kind = None
 
-abbrev pub is_keyword : Edition → List ℕ → Bool
-is_keyword edition w = list_any (bytes_eq w) old_keywords || takes edition w
+-- the greatest value of an integer literal of the form: an `i32` holds it, and so does the type that its suffix names
+abbrev pub greatest : Option IntKind → ℕ
+greatest (Some I8) = 127
+greatest (Some U8) = 255
+greatest (Some I16) = 32767
+greatest (Some U16) = 65535
+greatest suffix = 2147483647
 
--- the spelling of a name: a raw word, or a word that is neither `_` nor a keyword
-abbrev pub is_name : Edition → List ℕ → Bool
-is_name edition w = is_raw_word w || (is_word w && (not (bytes_eq w (codes "_")) && not (is_keyword edition w)))
+-- the value of an integer literal of the form
+abbrev pub int_in : TokenKind → Option ℕ
+int_in (Int value suffix) = if nat_le value (greatest suffix) then Some value else None
+int_in kind = None
 
--- the name that a spelling names, raw or not
-abbrev pub name_of : List ℕ → List ℕ
-name_of w = if starts_with nat_eq w (codes "r#") then drop 2 w else w
+-- what a token of a kind and a text says: an identifier that isn't raw its name, another token its text
+abbrev pub said : TokenKind → List ℕ → List ℕ
+said (Ident name raw) text = if raw then text else name
+said kind text = text
 
--- the number that decimal digits say, behind digits that say a number
-abbrev pub number : ℕ → List ℕ → ℕ
-number n [] = n
-number n (b ∷ bs) = number (10 * n + (b - 48)) bs
+-- the tokens say these words, and then come the others
+abbrev pub Begins : List (List ℕ) → List Token → List Token → Type 0
+Begins [] ts rest = ts ≡ rest
+Begins (w ∷ ws) ts rest = (t : Token) × (us : List Token) × (ts ≡ t ∷ us) × (said t.kind t.text ≡ w) × Begins ws us rest
 
--- the spelling of an integer literal of this value, which an `i32` holds
-pub record IsInt (digits : List ℕ) (value : ℕ) : Type 0 where
-  pub some : 0 < length digits
-  pub decimal : list_all is_digit digits ≡ true
-  pub says : number 0 digits ≡ value
-  pub small : value ≤ 2147483647
+-- the tokens begin with a name
+abbrev pub NameFirst : Edition → List ℕ → List Token → List Token → Type 0
+NameFirst edition name ts rest = (t : Token) × (ts ≡ t ∷ rest) × (name_in edition t.kind ≡ Some name)
+
+-- the tokens begin with an integer
+abbrev pub IntFirst : ℕ → List Token → List Token → Type 0
+IntFirst value ts rest = (t : Token) × (ts ≡ t ∷ rest) × (int_in t.kind ≡ Some value)
+
+-- the tokens begin with `let name = value ;`
+pub record LetFirst (edition : Edition) (name : List ℕ) (value : ℕ) (ts rest : List Token) : Type 0 where
+  pub behind_let : List Token
+  pub behind_name : List Token
+  pub behind_equals : List Token
+  pub behind_int : List Token
+  pub is_let : Begins (codes "let" ∷ []) ts behind_let
+  pub is_name : NameFirst edition name behind_let behind_name
+  pub is_equals : Begins (codes "=" ∷ []) behind_name behind_equals
+  pub is_int : IntFirst value behind_equals behind_int
+  pub ends : Begins (codes ";" ∷ []) behind_int rest
+
+-- the tokens begin with `println ! ( "{}" , name ) ;`
+pub record PrintFirst (edition : Edition) (name : List ℕ) (ts rest : List Token) : Type 0 where
+  pub behind_comma : List Token
+  pub behind_name : List Token
+  pub is_print : Begins (codes "println" ∷ codes "!" ∷ codes "(" ∷ codes "\"{}\"" ∷ codes "," ∷ []) ts behind_comma
+  pub is_name : NameFirst edition name behind_comma behind_name
+  pub ends : Begins (codes ")" ∷ codes ";" ∷ []) behind_name rest
 
 -- a statement: it binds a value, or prints that of the `let` of a number
 pub data Statement : Type 0 where
@@ -52,32 +82,21 @@ abbrev pub latest : List ℕ → List (List ℕ) → Option ℕ
 latest name [] = None
 latest name (b ∷ bs) = if bytes_eq b name then Some (length bs) else latest name bs
 
--- `let w = digits ;` and then the rest
-abbrev pub let_of : List ℕ → List ℕ → List (List ℕ) → List (List ℕ)
-let_of w digits rest = codes "let" ∷ w ∷ codes "=" ∷ digits ∷ codes ";" ∷ rest
+-- the tokens are these statements and a `}`, behind `let`s of these names
+abbrev pub Body : Edition → List (List ℕ) → List Token → List Statement → Type 0
+Body edition names ts [] = Begins (codes "}" ∷ []) ts []
+Body edition names ts (Let value ∷ core) =
+    (name : List ℕ) × (rest : List Token) × LetFirst edition name value ts rest × Body edition (name ∷ names) rest core
+Body edition names ts (Print which ∷ core) =
+    (name : List ℕ) × (rest : List Token) × PrintFirst edition name ts rest × (latest name names ≡ Some which) × Body edition names rest core
 
--- `println ! ( "{}" , w ) ;` and then the rest
-abbrev pub print_of : List ℕ → List (List ℕ) → List (List ℕ)
-print_of w rest = codes "println" ∷ codes "!" ∷ codes "(" ∷ codes "\"{}\"" ∷ codes "," ∷ w ∷ codes ")" ∷ codes ";" ∷ rest
-
--- `fn main ( ) {` and then the rest
-abbrev pub main_of : List (List ℕ) → List (List ℕ)
-main_of rest = codes "fn" ∷ codes "main" ∷ codes "(" ∷ codes ")" ∷ codes "{" ∷ rest
-
--- the spellings are these statements and a `}`, behind `let`s of these names
-abbrev pub Body : Edition → List (List ℕ) → List (List ℕ) → List Statement → Type 0
-Body edition names ws [] = ws ≡ codes "}" ∷ []
-Body edition names ws (Let value ∷ core) =
-    (w : List ℕ) × (digits : List ℕ) × (rest : List (List ℕ)) × (ws ≡ let_of w digits rest) × (is_name edition w ≡ true) × IsInt digits value × Body edition (name_of w ∷ names) rest core
-Body edition names ws (Print which ∷ core) =
-    (w : List ℕ) × (rest : List (List ℕ)) × (ws ≡ print_of w rest) × (is_name edition w ≡ true) × (latest (name_of w) names ≡ Some which) × Body edition names rest core
-
-abbrev pub spellings : List Token → List (List ℕ)
-spellings ts = map (λ t. t.text) ts
+-- `fn main ( ) {`
+abbrev pub main_words : List (List ℕ)
+main_words = codes "fn" ∷ codes "main" ∷ codes "(" ∷ codes ")" ∷ codes "{" ∷ []
 
 -- the tokens are a program of the first form under an edition, and these are its statements
 abbrev pub FirstCore : Edition → List Token → List Statement → Type 0
-FirstCore edition ts core = (rest : List (List ℕ)) × (spellings ts ≡ main_of rest) × Body edition [] rest core
+FirstCore edition ts core = (rest : List Token) × Begins main_words ts rest × Body edition [] rest core
 
 -- the tokens are a program of the first form under an edition
 abbrev pub FirstForm : Edition → List Token → Type 0

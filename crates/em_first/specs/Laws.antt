@@ -25,11 +25,11 @@ NothingLeft = (by : ℕ) (ts : List Token) → findings (moved is_found E2018 by
 
 -- the findings of a text can be applied to it
 abbrev pub FindingsFit : Type 0
-FindingsFit = (text : List ℕ) (ts : List Token) → Lexes 0 E2015 0 text ts → AreApplicable (text ∷ []) (findings ts)
+FindingsFit = (text : List ℕ) (ts : List Token) → Lexes 0 E2015 text ts → AreApplicable (text ∷ []) (findings ts)
 
 -- the text after the findings has the moved tokens
 abbrev pub EditedLexes : Type 0
-EditedLexes = (file : ℕ) (text : List ℕ) (ts : List Token) → Lexes file E2015 0 text ts → Lexes file E2018 0 (edited file (findings ts) text) (moved is_found E2018 0 ts)
+EditedLexes = (file : ℕ) (text : List ℕ) (ts : List Token) → Lexes file E2015 text ts → Lexes file E2018 (edited file (findings ts) text) (moved is_found E2018 0 ts)
 
 -- equal statements print the same after any number of them
 abbrev pub KeepsEvents : Type 0

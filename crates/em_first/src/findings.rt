@@ -31,7 +31,7 @@ pub fn keyword_findings(alloc: Global, tokens: &Tokens) -> Result<List<Suggestio
 {
     let mut found = List::new(alloc);
     for token in tokens.list.as_slice() {
-        if is_taken(token.text.as_str()) {
+        if is_taken(&token.kind) {
             found.push(finding(alloc, token)?)?;
         }
     }

@@ -1,22 +1,22 @@
 ghost use Rattle.std.specs.Prelude.{◌≡◌, ◌↔◌, [], IsTrue, IfOk, map};
 ghost use Rattle.std.specs.Option.{option_map};
 ghost use Rattle.em_base.specs.declared.edition.Edition.TheVariants.{E2015};
-ghost use Rattle.em_first.specs.Form.{spellings, FirstForm};
+ghost use Rattle.em_first.specs.Form.{FirstForm};
 ghost use Rattle.em_first.specs.Reading.{behind, name_first, behind_int, let_first, print_first, is_end, Reads};
 
-use crate::words::{bare, is_int, is_name};
-use em_base::{NoMemory, Token, Tokens};
+use crate::words::{int_in, name_in, said};
+use em_base::{Name, NoMemory, Token, Tokens};
 use std::alloc::Global;
 use std::collections::BTreeSet;
 
 /// The tokens behind words, where these come first.
 fn behind<'a>(tokens: &'a [Token], words: &[&str]) -> Option<&'a [Token]>
-    ensures { option_map (λ r. spellings r.now) result ≡ behind (map (λ w. w.now) words.now) (spellings tokens.now) }
+    ensures { option_map (λ r. r.now) result ≡ behind (map (λ w. w.now) words.now) tokens.now }
 {
     let mut rest = tokens;
     for word in words {
         let (first, others) = rest.split_first()?;
-        if first.text.as_str() != *word {
+        if said(first) != *word {
             return None;
         }
         rest = others;
@@ -24,34 +24,27 @@ fn behind<'a>(tokens: &'a [Token], words: &[&str]) -> Option<&'a [Token]>
     Some(rest)
 }
 
-/// The name that comes first, without its `r#`, and the tokens behind it.
-fn name_first(tokens: &[Token]) -> Option<(&str, &[Token])>
-    ensures { option_map (λ p. (p.0.now, spellings p.1.now)) result ≡ name_first (spellings tokens.now) }
+/// The name that comes first, and the tokens behind it.
+fn name_first(tokens: &[Token]) -> Option<(&Name, &[Token])>
+    ensures { option_map (λ p. (p.0.now, p.1.now)) result ≡ name_first tokens.now }
 {
     let (first, rest) = tokens.split_first()?;
-    let word = first.text.as_str();
-    if is_name(word) {
-        Some((bare(word), rest))
-    } else {
-        None
-    }
+    let name = name_in(&first.kind)?;
+    Some((name, rest))
 }
 
 /// The tokens behind an integer literal.
 fn behind_int(tokens: &[Token]) -> Option<&[Token]>
-    ensures { option_map (λ r. spellings r.now) result ≡ behind_int (spellings tokens.now) }
+    ensures { option_map (λ r. r.now) result ≡ behind_int tokens.now }
 {
     let (first, rest) = tokens.split_first()?;
-    if is_int(first.text.as_str()) {
-        Some(rest)
-    } else {
-        None
-    }
+    int_in(&first.kind)?;
+    Some(rest)
 }
 
 /// The name that a `let` binds, and the tokens behind it.
-fn let_first(tokens: &[Token]) -> Option<(&str, &[Token])>
-    ensures { option_map (λ p. (p.0.now, spellings p.1.now)) result ≡ let_first (spellings tokens.now) }
+fn let_first(tokens: &[Token]) -> Option<(&Name, &[Token])>
+    ensures { option_map (λ p. (p.0.now, p.1.now)) result ≡ let_first tokens.now }
 {
     let rest = behind(tokens, &["let"])?;
     let (name, rest) = name_first(rest)?;
@@ -62,8 +55,8 @@ fn let_first(tokens: &[Token]) -> Option<(&str, &[Token])>
 }
 
 /// The name whose value a `println!` prints, and the tokens behind it.
-fn print_first(tokens: &[Token]) -> Option<(&str, &[Token])>
-    ensures { option_map (λ p. (p.0.now, spellings p.1.now)) result ≡ print_first (spellings tokens.now) }
+fn print_first(tokens: &[Token]) -> Option<(&Name, &[Token])>
+    ensures { option_map (λ p. (p.0.now, p.1.now)) result ≡ print_first tokens.now }
 {
     let rest = behind(tokens, &["println", "!", "(", "\"{}\"", ","])?;
     let (name, rest) = name_first(rest)?;
@@ -73,7 +66,7 @@ fn print_first(tokens: &[Token]) -> Option<(&str, &[Token])>
 
 /// Whether only a `}` is left.
 fn is_end(tokens: &[Token]) -> bool
-    ensures { result ≡ is_end (spellings tokens.now) }
+    ensures { result ≡ is_end tokens.now }
 {
     match behind(tokens, &["}"]) {
         Some(rest) => rest.is_empty(),
@@ -83,16 +76,16 @@ fn is_end(tokens: &[Token]) -> bool
 
 /// Whether the tokens behind `fn main() {` are statements and a `}`.
 fn is_body(alloc: Global, tokens: &[Token]) -> Result<bool, NoMemory>
-    ensures { IfOk result (λ answer. IsTrue answer ↔ Reads [] (spellings tokens.now)) }
+    ensures { IfOk result (λ answer. IsTrue answer ↔ Reads [] tokens.now) }
 {
     let mut names: BTreeSet<&str> = BTreeSet::new(alloc);
     let mut rest = tokens;
     'statements: loop {
         if let Some((name, after)) = let_first(rest) {
-            names.insert(name)?;
+            names.insert(name.as_str())?;
             rest = after;
         } else if let Some((name, after)) = print_first(rest) {
-            if !names.contains(name) {
+            if !names.contains(name.as_str()) {
                 return Ok(false);
             }
             rest = after;
@@ -103,8 +96,8 @@ fn is_body(alloc: Global, tokens: &[Token]) -> Result<bool, NoMemory>
 }
 
 /// Whether the tokens are a program of the first form of the edition 2015: `fn main() { .. }` with statements
-/// `let name = int;`, whose int an `i32` holds, and `println!("{}", name);`, whose name an earlier `let` binds. A raw
-/// name and a plain one are the same name. One pass over the tokens; the bound names stand in an ordered set, which
+/// `let name = int;`, whose int an `i32` and the type of its suffix hold, and `println!("{}", name);`, whose name an
+/// earlier `let` binds. A raw name and a plain one are the same name, and so are names of equal normal forms. One pass over the tokens; the bound names stand in an ordered set, which
 /// borrows them.
 ///
 /// Answers `Err` for want of memory alone.

@@ -5,7 +5,6 @@ use std::alloc::Global;
 use std::process::Abort;
 
 fn tokens_of(rt: &(impl Alloc<A = Global> + Abort), text: &str) -> Tokens {
-    assert!(rt; text.len() <= 4194304);
     let mut count = Lexings::new();
     lex(rt.alloc(), 0, Edition::E2015, text.as_bytes(), &mut count).expect(rt, "the text lexes")
 }
@@ -41,6 +40,19 @@ fn tells_programs_of_the_first_form(rt: HostRuntime) {
         ("fn main() { let x = 1;", false),
         ("fn main() { } }", false),
         ("fn r#main() { }", false),
+        ("/* a */ fn main() { // b\n }", true),
+        (
+            "fn main() { let e\u{301} = 1; println!(\"{}\", \u{e9}); }",
+            true,
+        ),
+        ("fn main() { let x = 0x7fff_ffff; }", true),
+        ("fn main() { let x = 127i8; let y = 255_u8; }", true),
+        ("fn main() { let x = 128i8; }", false),
+        ("fn main() { let x = 256u8; }", false),
+        ("fn main() { let x = 2147483647u64; }", true),
+        ("fn main() { let x = 2147483648u64; }", false),
+        ("fn main() { let x = 'a'; }", false),
+        ("fn main() { println!(r\"{}\", x); }", false),
         ("", false),
     ];
     for (text, want) in programs {

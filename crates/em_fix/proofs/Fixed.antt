@@ -8,10 +8,11 @@ use Rattle.em_disk.specs.declared.changes.Change.{Change}
 use Rattle.em_fix.specs.Lines.{Tells, TellsRefusal, Wrote, write_line}
 use Rattle.std.specs.Prelude.{slice_get}
 use Rattle.em_fix.specs.Words.{source_name, manifest_name}
-use Rattle.em_fix.specs.Migration.{AreOwn, Migrates, HasManifest, HasProgram}
-use Rattle.em_fix.specs.Answers.{Carries, Refuses, IsRefusal, Says, FaultRose}
+use Rattle.em_fix.specs.Migration.{AreOwn, Migrates}
+use Rattle.em_fix.specs.Answers.{Carries, Refuses, IsRefusal, Says, FaultRose, IsDecided, RefusalsAreDecided, MigrationsAreDecided}
 use Rattle.em_fix.specs.declared.status.Status.{Status}
-use Rattle.em_fix.specs.declared.status.Status.TheVariants.{Done, Usage, ReadFault, WriteFault, SinkFault, NoMemory, Unbuilt}
+use Rattle.em_fix.specs.declared.status.Status.TheVariants.{Done, Usage, ReadFault, WriteFault, SinkFault, NoMemory, NotAccepted, Limit, Unbuilt}
+use Rattle.em_fix.specs.declared.status.Phase.TheVariants.{Lex}
 
 none_some : (P : Type 0) (c : Change) → None ≡ Some c → P
 none_some P c h = cc
@@ -24,6 +25,8 @@ says_one held left changes report Done old new before now m h = (changes, report
 says_one held left changes report SinkFault old new before now m h = (changes, report, m, h)
 says_one held left changes report (WriteFault which) old new before now m h = (changes, report, m, h)
 says_one held left changes report Unbuilt old new before now m h = absurd h
+says_one held left changes report (NotAccepted place phase) old new before now m h = absurd h
+says_one held left changes report (Limit which) old new before now m h = absurd h
 says_one held left changes report Usage old new before now m h = absurd h
 says_one held left changes report (ReadFault name) old new before now m h = absurd h
 says_one held left changes report NoMemory old new before now m h = absurd h
@@ -65,11 +68,15 @@ carried_completes changes report held left Usage old new fb fn ob on h r f o = a
 carried_completes changes report held left (ReadFault name) old new fb fn ob on h r f o = absurd h
 carried_completes changes report held left NoMemory old new fb fn ob on h r f o = absurd h
 carried_completes changes report held left Unbuilt old new fb fn ob on h r f o = absurd h
+carried_completes changes report held left (NotAccepted place phase) old new fb fn ob on h r f o = absurd h
+carried_completes changes report held left (Limit which) old new fb fn ob on h r f o = absurd h
 
 refused_one : (held : Held) (left : Option Held) (s : Status) (old new : Option (List ℕ)) (before now : ℕ) → left ≡ Some held → Refuses held s → Says held s left old new before now
 refused_one held left (ReadFault name) old new before now e h = (e, h)
 refused_one held left NoMemory old new before now e h = e
 refused_one held left Unbuilt old new before now e h = (e, h)
+refused_one held left (NotAccepted place phase) old new before now e h = (e, h)
+refused_one held left (Limit which) old new before now e h = (e, h)
 refused_one held left Done old new before now e h = absurd h
 refused_one held left Usage old new before now e h = absurd h
 refused_one held left (WriteFault which) old new before now e h = absurd h
@@ -85,6 +92,8 @@ pub refused_cause : (s : Status) (files_before files_now out_before out_now : �
 refused_cause (ReadFault name) fb fn ob on h = h
 refused_cause NoMemory fb fn ob on h = tt
 refused_cause Unbuilt fb fn ob on h = tt
+refused_cause (NotAccepted place phase) fb fn ob on h = tt
+refused_cause (Limit which) fb fn ob on h = tt
 refused_cause Done fb fn ob on h = tt
 refused_cause Usage fb fn ob on h = tt
 refused_cause (WriteFault which) fb fn ob on h = absurd h
@@ -93,25 +102,19 @@ refused_cause SinkFault fb fn ob on h = absurd h
 pub refusal_not_usage : (s : Status) (before now : ℕ) → IsRefusal s before now → s ≢ Usage
 refusal_not_usage s before now h e = subst (λ s. IsRefusal s before now) e h
 
-completes_one : (held : Held) (s : Status) (before now : ℕ) → IsRefusal s before now → Refuses held s → (Rose before now → ⊥) → HasManifest held → HasProgram held → (s ≡ Done) ⊎ (s ≡ NoMemory)
-completes_one held (ReadFault name) before now h r f m p = absurd (f h)
-completes_one held NoMemory before now h r f m p = inr refl
-completes_one held Unbuilt before now h (inl none) f m p = absurd (none m)
-completes_one held Unbuilt before now h (inr none) f m p = absurd (none.1 p)
-completes_one held Done before now h r f m p = absurd h
-completes_one held Usage before now h r f m p = absurd h
-completes_one held (WriteFault which) before now h r f m p = absurd h
-completes_one held SinkFault before now h r f m p = absurd h
+-- what was carried out with no fault is decided
+pub carried_decides : MigrationsAreDecided → (first mid left : Option Held) (changes : List Change) (report : List ℕ) (s : Status) (old new : Option (List ℕ)) (files_before files_now out_before out_now : ℕ) → IfSome first (λ held. Migrates held changes report) → Carries changes report mid s left old new out_before out_now → FaultRose s files_before files_now out_before out_now → (Rose files_before files_now → ⊥) → (Rose out_before out_now → ⊥) → IfSome first (λ held. IsDecided held s)
+carried_decides law first mid left changes report s old new fb fn ob on m h r f o = here first m (carried_completes changes report mid left s old new fb fn ob on h r f o)
+  where
+    here : (o : Option Held) → IfSome o (λ held. Migrates held changes report) → (s ≡ Done) ⊎ (s ≡ NoMemory) → IfSome o (λ held. IsDecided held s)
+    here None m e = tt
+    here (Some held) m (inl e) = subst (λ t. IsDecided held t) (sym e) (law held changes report m)
+    here (Some held) m (inr e) = record { done = λ m p. inr e; limit = λ which t. inr e; lex = λ place kind t. inr e; unbuilt = λ u. inr e }
 
--- a package in form isn't refused where no fault came
-pub refused_completes : (first : Option Held) (s : Status) (before now : ℕ) → IsRefusal s before now → IfSome first (λ held. Refuses held s) → (Rose before now → ⊥) → IfSome first (λ held. HasManifest held → HasProgram held → (s ≡ Done) ⊎ (s ≡ NoMemory))
-refused_completes None s before now h r f = tt
-refused_completes (Some held) s before now h r f = completes_one held s before now h r f
-
--- what holds for each package holds where the package is told
-pub told : (first : Option Held) (s : Status) → (s ≡ Done) ⊎ (s ≡ NoMemory) → IfSome first (λ held. HasManifest held → HasProgram held → (s ≡ Done) ⊎ (s ≡ NoMemory))
-told None s h = tt
-told (Some held) s h = λ m p. h
+-- a package that is refused with no fault decides the refusal
+pub refused_decides : RefusalsAreDecided → (first : Option Held) (s : Status) (before now : ℕ) → IsRefusal s before now → IfSome first (λ held. Refuses held s) → (Rose before now → ⊥) → IfSome first (λ held. IsDecided held s)
+refused_decides law None s before now h r f = tt
+refused_decides law (Some held) s before now h r f = law held s before now h r f
 
 pub unchanged_says_usage : (first left : Option Held) (old new : Option (List ℕ)) (before now : ℕ) → left ≡ first → IfSome first (λ held. Says held Usage left old new before now)
 unchanged_says_usage None left old new before now e = tt
@@ -128,6 +131,8 @@ pub refused_tells : (s : Status) (old new : Option (List ℕ)) (files_before fil
 refused_tells (ReadFault name) old new fb fn ob on r h = h
 refused_tells NoMemory old new fb fn ob on r h = h
 refused_tells Unbuilt old new fb fn ob on r h = h
+refused_tells (NotAccepted place phase) old new fb fn ob on r h = h
+refused_tells (Limit which) old new fb fn ob on r h = h
 refused_tells Done old new fb fn ob on r h = tt
 refused_tells Usage old new fb fn ob on r h = h
 refused_tells (WriteFault which) old new fb fn ob on r h = absurd r

@@ -1,34 +1,49 @@
 -- What the reads of a package say of its migration, where the held files may be told or not.
-use Rattle.std.proofs.Common.{◌≡◌, inl, inr, refl, Bool, true, false, cond, ℕ, List, [], ◌∷◌, ◌++◌, Option, Some, None, IfSome, subst, sym, ◌∙◌, ap}
+use Rattle.std.proofs.Common.{◌≡◌, ◌≤◌, ◌<◌, inl, inr, refl, arith, length, Bool, true, false, cond, ℕ, List, [], ◌∷◌, ◌++◌, Option, Some, None, IfSome, subst, sym, ◌∙◌, ap}
 use Rattle.std.specs.Str.{bytes_eq}
 use Rattle.std.specs.Option.{unwrap_or}
 use Rattle.em_base.specs.declared.edit.Suggestion.{Suggestion}
 use Rattle.em_disk.specs.Held.{Held}
 use Rattle.em_disk.specs.declared.changes.Change.{Change}
 use Rattle.em_fix.specs.Words.{manifest_name, source_name}
-use Rattle.em_base.specs.declared.edition.Edition.TheVariants.{E2015}
 use Rattle.em_fix.specs.Manifest.{IsManifest, IsNoManifest, MovesManifest}
-use Rattle.em_fix.specs.Source.{IsProgram, IsNoProgram, MovesSource}
+use Rattle.em_fix.specs.Source.{MovesSource}
 use Rattle.em_fix.specs.Report.{report_of}
-use Rattle.em_fix.specs.Migration.{HoldsShort, HasManifest, IsUnbuilt, Migrates, AreOwn, change, change_if}
-use Rattle.em_fix.specs.Answers.{FetchRefuses, Refuses}
+use Rattle.em_fix.specs.Migration.{HoldsShort, HoldsLong, HasManifest, IsUnbuilt, Migrates, AreOwn, change, change_if}
+use Rattle.em_fix.specs.Answers.{FetchRefuses, SourceRefuses, IsRefusal, Refuses}
 use Rattle.em_fix.specs.declared.status.Status.{Status}
-use Rattle.em_fix.specs.declared.status.Status.TheVariants.{Done, Usage, ReadFault, WriteFault, SinkFault, NoMemory, Unbuilt}
+use Rattle.em_fix.specs.declared.status.Status.TheVariants.{Done, Usage, ReadFault, WriteFault, SinkFault, NoMemory, NotAccepted, Limit, Unbuilt}
+use Rattle.em_fix.specs.declared.status.Phase.TheVariants.{Lex}
+use Rattle.em_base.specs.declared.limit.Limit.TheVariants.{FileBytes}
+
+pub none_some : (P : Type 0) (bytes : List ℕ) → None ≡ Some bytes → P
+none_some P bytes h = cc
 
 -- one name holds one list of bytes
-same_bytes : (held : Held) (name xs ys : List ℕ) → HoldsShort held name xs → HoldsShort held name ys → xs ≡ ys
+pub same_bytes : (held : Held) (name xs ys : List ℕ) → HoldsShort held name xs → HoldsShort held name ys → xs ≡ ys
 same_bytes held name xs ys p q = ap (λ o. unwrap_or o []) (sym p.at ∙ q.at)
+
+-- a file isn't both long and short
+pub long_short : (held : Held) (name : List ℕ) → HoldsLong held name → (bytes : List ℕ) → HoldsShort held name bytes → ⊥
+long_short held name h bytes k = let e : length h.bytes ≡ length bytes = ap (λ o. length (unwrap_or o [])) (sym h.at ∙ k.at) in let a = h.long in let b = k.short in omega (arith, e, a, b)
 
 -- the manifest can't be had
 pub manifest_refuses : (old : Option Held) (before now : ℕ) (s : Status) → FetchRefuses old manifest_name s before now → IfSome old (λ held. Refuses held s)
 manifest_refuses None before now s h = tt
 manifest_refuses (Some held) before now (ReadFault at) h = inl h.0
 manifest_refuses (Some held) before now NoMemory h = tt
-manifest_refuses (Some held) before now Unbuilt h = inl (λ m. h m.bytes m.there)
+manifest_refuses (Some held) before now Unbuilt h = inl (λ m. none_some _ _ (sym h ∙ m.there.at))
 manifest_refuses (Some held) before now Done h = h
 manifest_refuses (Some held) before now Usage h = h
 manifest_refuses (Some held) before now (WriteFault which) h = h
 manifest_refuses (Some held) before now SinkFault h = h
+manifest_refuses (Some held) before now (NotAccepted place phase) h = absurd h
+manifest_refuses (Some held) before now (Limit which) h = absurd h
+
+-- the manifest is too long
+pub manifest_long : (old : Option Held) → IfSome old (λ held. HoldsLong held manifest_name) → IfSome old IsUnbuilt
+manifest_long None h = tt
+manifest_long (Some held) h = inl (λ m. long_short held manifest_name h m.bytes m.there)
 
 -- the manifest isn't of the form
 pub manifest_unbuilt : (old : Option Held) (bytes : List ℕ) → IfSome old (λ held. HoldsShort held manifest_name bytes) → IsNoManifest bytes → IfSome old IsUnbuilt
@@ -46,19 +61,49 @@ source_refuses old mid bytes new before now s e h m f = here old s h (subst (λ 
     here None s h f = tt
     here (Some held) (ReadFault at) h f = inr (f.0, has_manifest held bytes new h m)
     here (Some held) NoMemory h f = tt
-    here (Some held) Unbuilt h f = inr (has_manifest held bytes new h m, λ p. f p.bytes p.there)
+    here (Some held) Unbuilt h f = inr (has_manifest held bytes new h m, inl f)
     here (Some held) Done h f = f
     here (Some held) Usage h f = f
     here (Some held) (WriteFault which) h f = f
     here (Some held) SinkFault h f = f
+    here (Some held) (NotAccepted place phase) h f = absurd f
+    here (Some held) (Limit which) h f = absurd f
 
--- the source is no program of the first form
-pub source_unbuilt : (old mid : Option Held) (bytes new source : List ℕ) → mid ≡ old → IfSome old (λ held. HoldsShort held manifest_name bytes) → MovesManifest bytes new → IfSome mid (λ held. HoldsShort held source_name source) → IsNoProgram source → IfSome old IsUnbuilt
-source_unbuilt old mid bytes new source e h m there none = here old h (subst (λ o. IfSome o (λ held. HoldsShort held source_name source)) e there)
+-- the source is too long
+pub source_long : (old mid : Option Held) (bytes new : List ℕ) → mid ≡ old → IfSome old (λ held. HoldsShort held manifest_name bytes) → MovesManifest bytes new → IfSome mid (λ held. HoldsLong held source_name) → IfSome old (λ held. Refuses held (Limit FileBytes))
+source_long old mid bytes new e h m there = here old h (subst (λ o. IfSome o (λ held. HoldsLong held source_name)) e there)
   where
-    here : (o : Option Held) → IfSome o (λ held. HoldsShort held manifest_name bytes) → IfSome o (λ held. HoldsShort held source_name source) → IfSome o IsUnbuilt
+    here : (o : Option Held) → IfSome o (λ held. HoldsShort held manifest_name bytes) → IfSome o (λ held. HoldsLong held source_name) → IfSome o (λ held. Refuses held (Limit FileBytes))
     here None h there = tt
-    here (Some held) h there = inr (has_manifest held bytes new h m, λ p. none p.tokens p.core (subst (λ xs. IsProgram E2015 xs p.tokens p.core) (same_bytes held source_name _ _ p.there there) p.form))
+    here (Some held) h there = record { manifest = has_manifest held bytes new h m; source = there; which = refl }
+
+-- the source can't be moved
+pub source_stays : (old mid : Option Held) (bytes new source : List ℕ) (s : Status) → mid ≡ old → IfSome old (λ held. HoldsShort held manifest_name bytes) → MovesManifest bytes new → IfSome mid (λ held. HoldsShort held source_name source) → SourceRefuses source s → IfSome old (λ held. Refuses held s)
+source_stays old mid bytes new source s e h m there r = here old s h (subst (λ o. IfSome o (λ held. HoldsShort held source_name source)) e there) r
+  where
+    here : (o : Option Held) (s : Status) → IfSome o (λ held. HoldsShort held manifest_name bytes) → IfSome o (λ held. HoldsShort held source_name source) → SourceRefuses source s → IfSome o (λ held. Refuses held s)
+    here None s h there r = tt
+    here (Some held) NoMemory h there r = tt
+    here (Some held) (NotAccepted place (Lex kind)) h there r = record { manifest = has_manifest held bytes new h m; bytes = source; there = there; fault = r }
+    here (Some held) Unbuilt h there r = inr (has_manifest held bytes new h m, inr (record { bytes = source; there = there; other = r }))
+    here (Some held) Done h there r = r
+    here (Some held) Usage h there r = r
+    here (Some held) (ReadFault name) h there r = absurd r
+    here (Some held) (WriteFault which) h there r = r
+    here (Some held) SinkFault h there r = r
+    here (Some held) (Limit which) h there r = absurd r
+
+-- such a refusal is one before any put
+pub stays_refusal : (source : List ℕ) (s : Status) (before now : ℕ) → SourceRefuses source s → IsRefusal s before now
+stays_refusal source NoMemory before now r = tt
+stays_refusal source (NotAccepted place (Lex kind)) before now r = tt
+stays_refusal source Unbuilt before now r = tt
+stays_refusal source Done before now r = r
+stays_refusal source Usage before now r = r
+stays_refusal source (ReadFault name) before now r = absurd r
+stays_refusal source (WriteFault which) before now r = r
+stays_refusal source SinkFault before now r = r
+stays_refusal source (Limit which) before now r = tt
 
 -- all is there
 pub all_moved : (old mid : Option Held) (manifest new_manifest source old_source new_source : List ℕ) (found : List Suggestion) (changes : List Change) (report : List ℕ) → mid ≡ old → IfSome old (λ held. HoldsShort held manifest_name manifest) → MovesManifest manifest new_manifest → IfSome mid (λ held. HoldsShort held source_name source) → old_source ≡ source → MovesSource source new_source found → changes ≡ change_if source_name old_source new_source ++ (change manifest_name manifest new_manifest ∷ []) → report ≡ report_of found → IfSome old (λ held. Migrates held changes report)

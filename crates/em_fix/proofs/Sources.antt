@@ -12,12 +12,12 @@ use Rattle.em_first.specs.Laws.{OneCore, KeepsCore, NothingLeft, EditedLexes}
 use Rattle.em_lex.specs.Laws.{OneLexing, TokensInText, LieInOrder}
 use Rattle.em_lex.specs.Lexing.{Lexes}
 use Rattle.em_lex.specs.Marking.{moved}
-use Rattle.em_fix.specs.Source.{IsProgram, IsNoProgram, Prints, EditsMove}
+use Rattle.em_fix.specs.Source.{IsProgram, Prints, EditsMove}
 
 -- a program prints what its statements print
 one_print : OneLexing → OneCore → (edition : Edition) (text : List ℕ) (tokens : List Token) (core : List Statement) (n : ℕ) (events : Events) → IsProgram edition text tokens core → Prints edition text n events → events ≡ first_events core n
 one_print lexing one edition text tokens core n events program p =
-    let same : p.tokens ≡ tokens = lexing 0 edition 0 text p.tokens tokens p.program.lexes program.lexes in
+    let same : p.tokens ≡ tokens = lexing 0 edition text p.tokens tokens p.program.lexes program.lexes in
     let form : FirstCore edition tokens p.core = subst (λ ts. FirstCore edition ts p.core) same p.program.form in
     p.prints ∙ ap (λ c. first_events c n) (one edition tokens p.core core form program.form)
 
@@ -43,15 +43,6 @@ edits_move lexing one keeps nothing lexes old tokens h form =
       same_prints = λ n events. (λ p. prints_too lexing one E2015 E2018 old new tokens (moved is_found E2018 0 tokens) form.0 n events before now p, λ p. prints_too lexing one E2018 E2015 new old (moved is_found E2018 0 tokens) tokens form.0 n events now before p);
     }
 
--- a text with no tokens is no program
-pub no_lexing : (text : List ℕ) → ((tokens : List Token) → Lexes 0 E2015 0 text tokens → ⊥) → IsNoProgram text
-no_lexing text none tokens core program = none tokens program.lexes
-
--- a text whose tokens aren't of the first form is no program
-pub no_form : OneLexing → (text : List ℕ) (tokens : List Token) → Lexes 0 E2015 0 text tokens → (FirstForm E2015 tokens → ⊥) → IsNoProgram text
-no_form lexing text tokens h none other core program =
-    none (core, subst (λ ts. FirstCore E2015 ts core) (lexing 0 E2015 0 text other tokens program.lexes h) program.form)
-
 -- tokens that lie in a text from an offset on are no more than its bytes from there on
 few_tokens : (file : ℕ) (edition : Edition) (offset : ℕ) (text : List ℕ) (ts : List Token) → offset ≤ length text → LieInOrder file edition offset text ts → offset + length ts ≤ length text
 few_tokens file edition offset text [] le h = omega (arith, le)
@@ -70,10 +61,10 @@ found_among (t ∷ ts) = here (is_found t) (found_among ts)
     here false h = omega (arith, h)
 
 -- there are no more findings than bytes
-pub few_findings : TokensInText → (text : List ℕ) (ts : List Token) (found : List Suggestion) → Lexes 0 E2015 0 text ts → found ≡ findings ts → length text ≤ 4194304 → length found < 2 ^ 32
+pub few_findings : TokensInText → (text : List ℕ) (ts : List Token) (found : List Suggestion) → Lexes 0 E2015 text ts → found ≡ findings ts → length text ≤ 4194304 → length found < 2 ^ 32
 few_findings lie text ts found h is short =
     let lies = lie 0 E2015 text ts h in
-    let few = few_tokens 0 E2015 0 text ts (omega arith) lies.ordered in
+    let few = few_tokens 0 E2015 0 text ts (omega arith) lies in
     let among = found_among ts in
     let same : length found ≡ length (findings ts) = ap length is in
     omega (arith, few, among, same, short)

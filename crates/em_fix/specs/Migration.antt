@@ -1,16 +1,20 @@
 -- A package that can be migrated, and what its migration changes and reports.
-use Rattle.std.specs.Prelude.{◌≡◌, ◌⊎◌, ℕ, ◌≤◌, List, [], ◌∷◌, ◌++◌, Some, length, if◌then◌else◌}
+use Rattle.std.specs.Prelude.{◌≡◌, ◌⊎◌, ℕ, ◌≤◌, ◌<◌, List, [], ◌∷◌, ◌++◌, Some, None, length, if◌then◌else◌}
 use Rattle.std.specs.FinMap.{get}
 use Rattle.std.specs.Str.{bytes_eq}
 use Rattle.em_base.specs.declared.edit.Suggestion.{Suggestion}
 use Rattle.em_base.specs.declared.edition.Edition.TheVariants.{E2015}
+use Rattle.em_base.specs.declared.limit.Limit.{Limit}
+use Rattle.em_base.specs.declared.limit.Limit.TheVariants.{FileBytes}
+use Rattle.em_base.specs.declared.place.Place.{Place}
 use Rattle.em_base.specs.declared.token.Token.{Token}
 use Rattle.em_disk.specs.Held.{Held}
 use Rattle.em_disk.specs.declared.changes.Change.{Change}
 use Rattle.em_first.specs.Form.{Statement}
+use Rattle.em_lex.specs.declared.error.LexKind.{LexKind}
 use Rattle.em_fix.specs.Words.{manifest_name, source_name}
 use Rattle.em_fix.specs.Manifest.{IsManifest, MovesManifest}
-use Rattle.em_fix.specs.Source.{IsProgram, MovesSource}
+use Rattle.em_fix.specs.Source.{IsProgram, IsNoProgram, IsFault, MovesSource}
 use Rattle.em_fix.specs.Report.{report_of}
 
 -- the most bytes that a file may have
@@ -37,9 +41,34 @@ pub record HasProgram (held : Held) : Type 0 where
   pub there : HoldsShort held source_name bytes
   pub form : IsProgram E2015 bytes tokens core
 
--- the package is of no form that is built: first its manifest, and then its source
+-- a file is held, and is too long
+pub record HoldsLong (held : Held) (name : List ℕ) : Type 0 where
+  pub bytes : List ℕ
+  pub at : get held name ≡ Some bytes
+  pub long : file_bytes < length bytes
+
+-- the manifest is of the first form, and the source is too long
+pub record IsTooLong (held : Held) (limit : Limit) : Type 0 where
+  pub manifest : HasManifest held
+  pub source : HoldsLong held source_name
+  pub which : limit ≡ FileBytes
+
+-- the manifest is of the first form, and the source has no tokens: this is its first fault
+pub record IsNotLexed (held : Held) (place : Place) (kind : LexKind) : Type 0 where
+  pub manifest : HasManifest held
+  pub bytes : List ℕ
+  pub there : HoldsShort held source_name bytes
+  pub fault : IsFault bytes place kind
+
+-- the source is there and has tokens, which are no program of the first form
+pub record HasOther (held : Held) : Type 0 where
+  pub bytes : List ℕ
+  pub there : HoldsShort held source_name bytes
+  pub other : IsNoProgram bytes
+
+-- the package is of no form that is built: first its manifest, and then its source, which isn't there or no program
 abbrev pub IsUnbuilt : Held → Type 0
-IsUnbuilt held = (HasManifest held → ⊥) ⊎ (HasManifest held × (HasProgram held → ⊥))
+IsUnbuilt held = (HasManifest held → ⊥) ⊎ (HasManifest held × ((get held source_name ≡ None) ⊎ HasOther held))
 
 -- a change of a file
 abbrev pub change : List ℕ → List ℕ → List ℕ → Change

@@ -8,16 +8,25 @@ use Rattle.em_edit.specs.Edited.{edited}
 use Rattle.em_first.specs.Events.{Events, first_events}
 use Rattle.em_first.specs.Form.{Statement, FirstCore, FirstForm}
 use Rattle.em_first.specs.Keyword.{findings}
-use Rattle.em_lex.specs.Lexing.{Lexes}
+use Rattle.em_base.specs.declared.place.Place.{Place}
+use Rattle.em_lex.specs.declared.error.LexKind.{LexKind}
+use Rattle.em_lex.specs.Lexing.{Lexes, FirstFault}
 
 -- a text has these tokens under an edition, and they are a program of the first form of these statements
 pub record IsProgram (edition : Edition) (text : List ℕ) (tokens : List Token) (core : List Statement) : Type 0 where
-  pub lexes : Lexes 0 edition 0 text tokens
+  pub lexes : Lexes 0 edition text tokens
   pub form : FirstCore edition tokens core
 
--- a text is no program of the first form of 2015
-abbrev pub IsNoProgram : List ℕ → Type 0
-IsNoProgram text = (tokens : List Token) (core : List Statement) → IsProgram E2015 text tokens core → ⊥
+-- a text has tokens under 2015, and they are no program of the first form
+pub record IsNoProgram (text : List ℕ) : Type 0 where
+  pub tokens : List Token
+  pub lexes : Lexes 0 E2015 text tokens
+  pub no_form : FirstForm E2015 tokens → ⊥
+
+-- a text has no tokens under 2015: this is its first fault
+pub record IsFault (text : List ℕ) (place : Place) (kind : LexKind) : Type 0 where
+  pub file : place.file ≡ 0
+  pub first : FirstFault E2015 text kind place.offset
 
 -- a text is a program of the first form under an edition, whose first n statements print this
 pub record Prints (edition : Edition) (text : List ℕ) (n : ℕ) (events : Events) : Type 0 where
@@ -41,4 +50,4 @@ pub record MovesSource (old new : List ℕ) (found : List Suggestion) : Type 0 w
 
 -- any program with all that is found in it applied is moved
 abbrev pub EditsMove : Type 0
-EditsMove = (old : List ℕ) (tokens : List Token) → Lexes 0 E2015 0 old tokens → FirstForm E2015 tokens → MovesSource old (edited 0 (findings tokens) old) (findings tokens)
+EditsMove = (old : List ℕ) (tokens : List Token) → Lexes 0 E2015 old tokens → FirstForm E2015 tokens → MovesSource old (edited 0 (findings tokens) old) (findings tokens)

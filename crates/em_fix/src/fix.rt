@@ -1,9 +1,9 @@
 ghost use Rattle.std.specs.Prelude.{◌≡◌, ◌≢◌, ◌≤◌, ◌↔◌, ◌⊎◌, ◌<◌, ◌^◌, length, IfSome};
 ghost use Rattle.em_disk.specs.Causes.{Rose};
 ghost use Rattle.em_fix.specs.Words.{the_words};
-ghost use Rattle.em_fix.specs.Migration.{AreOwn, HasManifest, HasProgram};
+ghost use Rattle.em_fix.specs.Migration.{AreOwn};
 ghost use Rattle.em_fix.specs.Lines.{Tells};
-ghost use Rattle.em_fix.specs.Answers.{Says, Carries, FaultRose};
+ghost use Rattle.em_fix.specs.Answers.{Says, Carries, FaultRose, IsDecided, MigrationsAreDecided, RefusalsAreDecided};
 
 use crate::lines::{tell, tell_write_fault};
 use crate::prepare::{Migration, prepare};
@@ -37,9 +37,20 @@ fn carry_out<F: Files, S: Sink>(migration: &Migration, files: &mut F, out: &mut 
     }
 }
 
+/// A package has at most one answer, but for want of memory.
+#[tactic(auto, using(crate::proofs::Decided::migrations, crate::proofs::Decided::refusals))]
+fn packages_decide()
+    ensures migrated { MigrationsAreDecided }
+    ensures refused { RefusalsAreDecided }
+{
+    em_lex::lexing_is_one();
+    em_lex::list_excludes_fault();
+    em_lex::fault_is_one();
+}
+
 /// Does all that the program does: migrates the package in the current folder by one edition, and writes a report or one line that
 /// says why not. `words` are those after the program's name.
-#[tactic(auto, using(crate::proofs::Fixed::says_carried, crate::proofs::Fixed::carried_not_usage, crate::proofs::Fixed::carried_completes, crate::proofs::Fixed::refused_says, crate::proofs::Fixed::refused_tells, crate::proofs::Fixed::refused_cause, crate::proofs::Fixed::refused_completes, crate::proofs::Fixed::refusal_not_usage, crate::proofs::Fixed::told, crate::proofs::Fixed::unchanged_says_usage))]
+#[tactic(auto, using(crate::proofs::Fixed::says_carried, crate::proofs::Fixed::carried_not_usage, crate::proofs::Fixed::carried_decides, crate::proofs::Fixed::refused_says, crate::proofs::Fixed::refused_tells, crate::proofs::Fixed::refused_cause, crate::proofs::Fixed::refused_decides, crate::proofs::Fixed::refusal_not_usage, crate::proofs::Fixed::unchanged_says_usage))]
 pub fn fix<F: Files, S: Sink>(
     alloc: Global,
     words: &List<Text>,
@@ -61,13 +72,13 @@ pub fn fix<F: Files, S: Sink>(
     ensures cause { FaultRose result (F.faults files.old) (F.faults files.new)
         (S.faults out.old) (S.faults out.new) }
 
-    // A package in form is migrated, if no fault comes and there is memory.
-    ensures complete { words.now ≡ the_words
+    // What the package is decides the answer, if no fault comes and there is memory.
+    ensures exact { words.now ≡ the_words
         → (Rose (F.faults files.old) (F.faults files.new) → ⊥)
         → (Rose (S.faults out.old) (S.faults out.new) → ⊥)
-        → IfSome (F.held files.old) (λ held. HasManifest held → HasProgram held
-        → (result ≡ Status.Done) ⊎ (result ≡ Status.NoMemory)) }
+        → IfSome (F.held files.old) (λ held. IsDecided held result) }
 {
+    packages_decide();
     if !are_the_words(words) {
         tell(out, &Status::Usage);
         return Status::Usage;

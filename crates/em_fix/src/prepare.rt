@@ -1,5 +1,5 @@
-ghost use Rattle.std.specs.Prelude.{◌≡◌, ◌≤◌, ◌<◌, ◌^◌, ◌++◌, ◌∷◌, [], length, OnOk, IfOk, IfErr, IfSome};
-ghost use Rattle.em_fix.specs.Migration.{HoldsShort, Migrates, AreOwn, change, change_if};
+ghost use Rattle.std.specs.Prelude.{◌≡◌, ◌≤◌, ◌<◌, ◌^◌, ◌++◌, ◌∷◌, [], length, OnOk, IfOk, IfErr, MatchOption, IfSome};
+ghost use Rattle.em_fix.specs.Migration.{HoldsShort, HoldsLong, Migrates, AreOwn, change, change_if};
 ghost use Rattle.em_fix.specs.Words.{manifest_name, source_name};
 ghost use Rattle.em_fix.specs.Answers.{FetchRefuses, IsRefusal, Refuses};
 
@@ -7,7 +7,7 @@ use crate::manifest::next_manifest;
 use crate::report::report_of;
 use crate::source::moved_source;
 use crate::status::Status;
-use em_base::{Bytes, List, NoMemory, Text};
+use em_base::{Bytes, Limit, List, NoMemory, Text};
 use em_disk::{Change, Files, ReadError};
 use std::alloc::Global;
 
@@ -20,20 +20,21 @@ pub struct Migration {
     pub report: Bytes,
 }
 
-/// The bytes of a file, or why they can't be had.
-fn fetch<F: Files>(alloc: Global, files: &mut F, name: &str) -> Result<Bytes, Status>
+/// The bytes of a file, `None` where it is too long, or why they can't be had.
+fn fetch<F: Files>(alloc: Global, files: &mut F, name: &str) -> Result<Option<Bytes>, Status>
     ensures kept { F.held files.new ≡ F.held files.old }
     ensures later { F.faults files.old ≤ F.faults files.new }
-    ensures short { IfOk result (λ bytes. length bytes ≤ 4194304) }
-    ensures ok { IfOk result (λ bytes. IfSome (F.held files.old) (λ held. HoldsShort held name.now bytes)) }
+    ensures short { IfOk result (λ answer. IfSome answer (λ bytes. length bytes ≤ 4194304)) }
+    ensures ok { IfOk result (λ answer. MatchOption answer (IfSome (F.held files.old) (λ held. HoldsLong held name.now))
+        (λ bytes. IfSome (F.held files.old) (λ held. HoldsShort held name.now bytes))) }
     ensures err { IfErr result (λ status. FetchRefuses (F.held files.old) name.now status
         (F.faults files.old) (F.faults files.new)) }
 {
     match files.read(alloc, name, FILE_BYTES) {
-        Ok(bytes) => Ok(bytes),
+        Ok(bytes) => Ok(Some(bytes)),
         Err(ReadError::NoMemory) => Err(Status::NoMemory),
         Err(ReadError::Absent) => Err(Status::Unbuilt),
-        Err(ReadError::TooLong) => Err(Status::Unbuilt),
+        Err(ReadError::TooLong) => Ok(None),
         Err(ReadError::Failed) => match Text::from_str(alloc, name) {
             Ok(name) => Err(Status::ReadFault { name }),
             Err(NoMemory) => Err(Status::NoMemory),
@@ -85,7 +86,7 @@ fn changes_of(
 }
 
 /// Reads the package, and makes all that is to be put and the report.
-#[tactic(auto, using(crate::proofs::Prepared::manifest_refuses, crate::proofs::Prepared::manifest_unbuilt, crate::proofs::Prepared::source_refuses, crate::proofs::Prepared::source_unbuilt, crate::proofs::Prepared::all_moved, crate::proofs::Prepared::all_own))]
+#[tactic(auto, using(crate::proofs::Prepared::manifest_refuses, crate::proofs::Prepared::manifest_unbuilt, crate::proofs::Prepared::manifest_long, crate::proofs::Prepared::source_refuses, crate::proofs::Prepared::source_long, crate::proofs::Prepared::source_stays, crate::proofs::Prepared::stays_refusal, crate::proofs::Prepared::all_moved, crate::proofs::Prepared::all_own))]
 pub fn prepare<F: Files>(alloc: Global, files: &mut F) -> Result<Migration, Status>
     ensures kept { F.held files.new ≡ F.held files.old }
     ensures later { F.faults files.old ≤ F.faults files.new }
@@ -95,14 +96,16 @@ pub fn prepare<F: Files>(alloc: Global, files: &mut F) -> Result<Migration, Stat
     ensures cause { IfErr result (λ status. IsRefusal status (F.faults files.old) (F.faults files.new)) }
     ensures err { IfErr result (λ status. IfSome (F.held files.old) (λ held. Refuses held status)) }
 {
-    let manifest = fetch(alloc, files, "Cargo.toml")?;
+    let Some(manifest) = fetch(alloc, files, "Cargo.toml")? else {
+        return Err(Status::Unbuilt);
+    };
     let Some(new_manifest) = next_manifest(alloc, manifest.as_slice())? else {
         return Err(Status::Unbuilt);
     };
-    let source = fetch(alloc, files, "src/main.rs")?;
-    let Some(moved) = moved_source(alloc, source)? else {
-        return Err(Status::Unbuilt);
+    let Some(source) = fetch(alloc, files, "src/main.rs")? else {
+        return Err(Status::Limit(Limit::FileBytes));
     };
+    let moved = moved_source(alloc, source)?;
     let report = report_of(alloc, moved.found.as_slice())?;
     let changes = changes_of(alloc, moved.old, moved.new, manifest, new_manifest)?;
     Ok(Migration { changes, report })

@@ -1,9 +1,13 @@
-ghost use Rattle.std.specs.Prelude.{◌≡◌, ◌≤◌, ◌<◌, ◌^◌, [], ◌∷◌, length, MatchOption, IfOk};
+ghost use Rattle.std.specs.Prelude.{◌≡◌, ◌≤◌, ◌<◌, ◌^◌, [], ◌∷◌, length, IfOk, IfErr};
 ghost use Rattle.em_edit.specs.Edited.{edited};
 ghost use Rattle.em_edit.specs.Fit.{AreApplicable};
-ghost use Rattle.em_fix.specs.Source.{IsNoProgram, MovesSource, EditsMove};
+ghost use Rattle.em_base.specs.declared.edition.Edition.TheVariants.{E2015};
+ghost use Rattle.em_lex.specs.Lexing.{Lexes};
+ghost use Rattle.em_fix.specs.Answers.{SourceRefuses};
+ghost use Rattle.em_fix.specs.Source.{MovesSource, EditsMove};
 
-use em_base::{Bytes, Edition, List, NoMemory, Suggestion};
+use crate::status::{Phase, Status};
+use em_base::{Bytes, Edition, List, NoMemory, Place, Suggestion, Tokens};
 use em_edit::{BadEdit, apply};
 use em_first::{is_first_form, keyword_findings};
 use em_lex::{LexError, Lexings, lex};
@@ -59,32 +63,38 @@ fn with_edits(
     }
 }
 
-/// The source of the next edition, where it is a program of the first form.
-#[tactic(auto, using(crate::proofs::Sources::no_lexing, crate::proofs::Sources::no_form, crate::proofs::Sources::few_findings))]
-pub fn moved_source(alloc: Global, source: Bytes) -> Result<Option<MovedSource>, NoMemory>
-    requires { length source ≤ 4194304 }
-    ensures { IfOk result (λ answer. MatchOption answer (IsNoProgram source)
-        (λ moved. (moved.old ≡ source) × MovesSource source moved.new moved.found)) }
+/// The tokens of a source, or why it has none.
+fn tokens_of(alloc: Global, source: &[u8]) -> Result<Tokens, Status>
+    requires { length source.now ≤ 4194304 }
+    ensures ok { IfOk result (λ tokens. Lexes 0 E2015 source.now tokens.list) }
+    ensures err { IfErr result (SourceRefuses source.now) }
 {
-    em_lex::lexing_is_one();
+    match lex(alloc, 0, Edition::E2015, source, &mut Lexings::new()) {
+        Ok(tokens) => Ok(tokens),
+        Err(LexError::NoMemory) => Err(Status::NoMemory),
+        Err(LexError::At { offset, kind }) => Err(Status::NotAccepted {
+            place: Place { file: 0, offset },
+            phase: Phase::Lex(kind),
+        }),
+        Err(LexError::Limit(limit)) => Err(Status::Limit(limit)),
+    }
+}
+
+/// The source of the next edition, where it is a program of the first form, or why it is refused.
+#[tactic(auto, using(crate::proofs::Sources::few_findings))]
+pub fn moved_source(alloc: Global, source: Bytes) -> Result<MovedSource, Status>
+    requires { length source ≤ 4194304 }
+    ensures ok { IfOk result (λ moved. (moved.old ≡ source) × MovesSource source moved.new moved.found) }
+    ensures err { IfErr result (SourceRefuses source) }
+{
     em_lex::tokens_lie_in_text();
     em_first::findings_fit();
     edited_programs_are_moved();
-    let tokens = match lex(
-        alloc,
-        0,
-        Edition::E2015,
-        source.as_slice(),
-        &mut Lexings::new(),
-    ) {
-        Ok(tokens) => tokens,
-        Err(LexError::NoMemory) => return Err(NoMemory),
-        Err(LexError::At { .. }) => return Ok(None),
-    };
+    let tokens = tokens_of(alloc, source.as_slice())?;
     if !is_first_form(alloc, &tokens)? {
-        return Ok(None);
+        return Err(Status::Unbuilt);
     }
     let found = keyword_findings(alloc, &tokens)?;
     let (old, new) = with_edits(alloc, source, &found)?;
-    Ok(Some(MovedSource { old, new, found }))
+    Ok(MovedSource { old, new, found })
 }

@@ -1,7 +1,15 @@
 ghost use Rattle.std.specs.Prelude.{◌≡◌};
 ghost use Rattle.em_fix.specs.Codes.{code_of};
 
-use em_base::{NoMemory, Text};
+use em_base::{Limit, NoMemory, Place, Text};
+use em_lex::LexKind;
+
+/// What a package is not accepted by.
+#[derive(Clone, Copy, Debug, PartialEq, Eq)]
+pub enum Phase {
+    /// A source has no tokens.
+    Lex(LexKind),
+}
 
 /// How a call of `fix` ends.
 #[derive(Debug, Drop)]
@@ -18,6 +26,10 @@ pub enum Status {
     SinkFault,
     /// Want of memory, before any file was changed.
     NoMemory,
+    /// The package isn't accepted: its first place and the phase that refuses it.
+    NotAccepted { place: Place, phase: Phase },
+    /// A count is above its limit.
+    Limit(Limit),
     /// The package is of a form that isn't built yet.
     Unbuilt,
 }
@@ -43,6 +55,8 @@ pub fn code(status: &Status) -> u8
         Status::WriteFault { .. } => 4,
         Status::SinkFault => 5,
         Status::NoMemory => 6,
+        Status::NotAccepted { .. } => 8,
+        Status::Limit(_) => 10,
         Status::Unbuilt => 15,
     }
 }

@@ -132,6 +132,21 @@ fn migrates(rt: HostRuntime) -> Result<(), Fail> {
             "fixed src/main.rs:32: keyword\nmigrated 2015 -> 2018\n",
             "fn main() { let asyncs = 1; let r#dyn = 2; println!(\"{}\", asyncs); }",
         ),
+        done(
+            "fn main() { let e\u{301} = 1; println!(\"{}\", \u{e9}); }",
+            "migrated 2015 -> 2018\n",
+            "fn main() { let e\u{301} = 1; println!(\"{}\", \u{e9}); }",
+        ),
+        done(
+            "/* async */ fn main() { let async = 0x2A_u8; // async\n }",
+            "fixed src/main.rs:28: keyword\nmigrated 2015 -> 2018\n",
+            "/* async */ fn main() { let r#async = 0x2A_u8; // async\n }",
+        ),
+        done(
+            "\u{feff}fn main() { let dyn = 1; }",
+            "fixed src/main.rs:19: keyword\nmigrated 2015 -> 2018\n",
+            "\u{feff}fn main() { let r#dyn = 1; }",
+        ),
     ];
     for row in &rows {
         check(&rt, row)?;
@@ -147,7 +162,26 @@ fn refuses(rt: HostRuntime) -> Result<(), Fail> {
         kept(MANIFEST, "fn main() { let a = 2147483648; }", 15, unbuilt),
         kept(MANIFEST, "fn main() { let as = 1; }", 15, unbuilt),
         kept(MANIFEST, "fn main() {} fn main() {}", 15, unbuilt),
+        kept(
+            MANIFEST,
+            "fn main() { println!(\"ab",
+            8,
+            "error[8]: src/main.rs:21: lex Unclosed\n",
+        ),
+        kept(
+            MANIFEST,
+            "fn \u{e9}() { \\ } \"",
+            8,
+            "error[8]: src/main.rs:10: lex BadCharacter\n",
+        ),
+        kept(
+            MANIFEST,
+            "fn main() { let a = 1.0; }",
+            8,
+            "error[8]: src/main.rs:20: lex Float\n",
+        ),
         kept(NEW_MANIFEST, KEYWORD, 15, unbuilt),
+        kept(NEW_MANIFEST, "'", 15, unbuilt),
         kept(
             "[package]\nname = \"\"\nedition = \"2015\"\n",
             KEYWORD,
@@ -207,8 +241,13 @@ fn names_each_fault(rt: HostRuntime) -> Result<(), Fail> {
             ..kept(NEW_MANIFEST, KEYWORD, 15, "")
         },
         Row {
+            files_fail: &[1],
             sink_fails: &[1],
-            ..kept(NEW_MANIFEST, KEYWORD, 15, "error[15]: unbuilt")
+            ..kept(MANIFEST, KEYWORD, 3, "error[3]: cannot read ")
+        },
+        Row {
+            sink_fails: &[3],
+            ..kept(MANIFEST, "'", 8, "error[8]: src/main.rs:0: lex ")
         },
     ];
     for row in &rows {
@@ -241,6 +280,30 @@ fn wants_both_files(rt: HostRuntime) -> Result<(), Fail> {
         assert_eq!(rt; code(&fix(alloc, &words, &mut files, &mut out)), 15);
         assert_eq!(rt; out.bytes(), b"error[15]: unbuilt\n".as_slice());
         start.push(file(alloc, "Cargo.toml", MANIFEST)?)?;
+    }
+    Ok(())
+}
+
+#[test]
+fn bounds_a_source(rt: HostRuntime) -> Result<(), Fail> {
+    let alloc = rt.alloc();
+    let none = numbers(alloc, &[])?;
+    let words = words_of(alloc, &["fix", "--edition", "."])?;
+    let mut spaces = Vec::new(alloc);
+    spaces.resize(4_194_304, b' ')?;
+    for (code_now, line) in [
+        (15, "error[15]: unbuilt\n"),
+        (10, "error[10]: FileBytes 4194304\n"),
+    ] {
+        let mut start = List::new(alloc);
+        start.push(file(alloc, "Cargo.toml", MANIFEST)?)?;
+        let name = Text::from_str(alloc, "src/main.rs")?;
+        start.push((name, Bytes::from_slice(alloc, spaces.as_slice())?))?;
+        let mut files = MemoryFiles::new(alloc, &start, &none)?;
+        let mut out = MemorySink::new(alloc, &none)?;
+        assert_eq!(rt; code(&fix(alloc, &words, &mut files, &mut out)), code_now);
+        assert_eq!(rt; out.bytes(), line.as_bytes());
+        spaces.push(b' ')?;
     }
     Ok(())
 }
