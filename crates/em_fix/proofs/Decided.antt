@@ -1,22 +1,17 @@
 -- A package has at most one answer.
-use Rattle.std.proofs.Common.{◌≡◌, ◌≤◌, ◌<◌, ◌⊎◌, inl, inr, ℕ, List, length, Option, Some, None, refl, subst, sym, ap, ◌∙◌, arith}
-use Rattle.std.specs.FinMap.{get}
-use Rattle.std.specs.Option.{unwrap_or}
+use Rattle.std.proofs.Common.{◌≡◌, inl, inr, ℕ, List, refl, subst, sym, ap, ◌∙◌}
 use Rattle.em_base.specs.declared.edition.Edition.TheVariants.{E2015}
 use Rattle.em_base.specs.declared.limit.Limit.{Limit as LimitKind}
 use Rattle.em_base.specs.declared.place.Place.{Place}
-use Rattle.em_base.specs.declared.token.Token.{Token}
 use Rattle.em_disk.specs.Held.{Held}
-use Rattle.em_first.specs.Form.{Statement, FirstCore, FirstForm}
+use Rattle.em_first.specs.Form.{FirstCore}
 use Rattle.em_lex.specs.declared.error.LexKind.{LexKind}
 use Rattle.em_lex.specs.Laws.{OneLexing, ListExcludesFault, OneFault}
 use Rattle.em_lex.specs.Lexing.{Lexes, FirstFault}
 use Rattle.em_fix.specs.Words.{source_name}
-use Rattle.em_fix.specs.Source.{IsProgram, IsNoProgram, IsFault}
-use Rattle.em_fix.specs.Migration.{HoldsShort, HoldsLong, HasManifest, HasProgram, HasOther, IsTooLong, IsNotLexed, IsUnbuilt, Migrates}
-use Rattle.em_fix.specs.Answers.{IsRefusal, Refuses, IsDecided, RefusalsAreDecided, MigrationsAreDecided}
+use Rattle.em_fix.specs.Migration.{HasManifest, HasProgram, HasOther, IsTooLong, IsNotLexed, IsUnbuilt}
+use Rattle.em_fix.specs.Answers.{IsDecided, RefusalsAreDecided, MigrationsAreDecided}
 use Rattle.em_fix.specs.declared.status.Phase.TheVariants.{Lex}
-use Rattle.em_fix.specs.declared.status.Status.{Status}
 use Rattle.em_fix.specs.declared.status.Status.TheVariants.{Done, Usage, ReadFault, WriteFault, SinkFault, NoMemory, NotAccepted, Limit, Unbuilt}
 use Rattle.em_fix.proofs.Prepared.{none_some, same_bytes, long_short}
 

@@ -12,7 +12,6 @@ use Rattle.em_fix.specs.Migration.{AreOwn, Migrates}
 use Rattle.em_fix.specs.Answers.{Carries, Refuses, IsRefusal, Says, FaultRose, IsDecided, RefusalsAreDecided, MigrationsAreDecided}
 use Rattle.em_fix.specs.declared.status.Status.{Status}
 use Rattle.em_fix.specs.declared.status.Status.TheVariants.{Done, Usage, ReadFault, WriteFault, SinkFault, NoMemory, NotAccepted, Limit, Unbuilt}
-use Rattle.em_fix.specs.declared.status.Phase.TheVariants.{Lex}
 
 none_some : (P : Type 0) (c : Change) → None ≡ Some c → P
 none_some P c h = cc

@@ -6,7 +6,7 @@ use Rattle.em_base.specs.declared.edition.Edition.TheVariants.{E2015, E2018}
 use Rattle.em_base.specs.declared.token.Token.{Token}
 use Rattle.em_edit.specs.Edited.{edited}
 use Rattle.em_first.specs.Events.{Events, first_events}
-use Rattle.em_first.specs.Form.{Statement, FirstCore, FirstForm}
+use Rattle.em_first.specs.Form.{Statement, FirstCore}
 use Rattle.em_first.specs.Keyword.{findings, finding, is_found}
 use Rattle.em_first.specs.Laws.{OneCore, KeepsCore, NothingLeft, EditedLexes}
 use Rattle.em_lex.specs.Laws.{OneLexing, TokensInText, LieInOrder}
