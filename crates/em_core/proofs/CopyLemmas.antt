@@ -1,7 +1,7 @@
 -- Which types are Copy, read from a type's form.
 use Rattle.std.proofs.Common.{◌≡◌, ◌↔◌, ℕ, Bool, true, false, List, Some, refl, sym, subst}
 use Rattle.std.specs.Prelude.{slice_get}
-use Rattle.em_core.specs.declared.ty.IntKind.{IntKind}
+use Rattle.em_base.specs.declared.int_kind.IntKind.{IntKind}
 use Rattle.em_core.specs.declared.ty.ClosureKind.{ClosureKind}
 use Rattle.em_core.specs.declared.ty.Ty.{Ty, out-Ty}
 use Rattle.em_core.specs.declared.ty.Ty as ty

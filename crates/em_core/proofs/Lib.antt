@@ -1,1 +1,5 @@
 mod CopyLemmas
+pub mod ChildLemmas
+pub mod TypeLemmas
+pub mod ImplLemmas
+pub mod GivesLemmas

@@ -2,8 +2,8 @@
 use Rattle.std.specs.Prelude.{ℕ, ◌-◌, ◌*◌, ◌%◌, ◌^◌, ℤ, pos, negsuc, ◌+ℤ◌, ◌-ℤ◌, ◌*ℤ◌, neg_ℤ, Bool, true, false, not, ◌&&◌, ◌||◌, if◌then◌else◌, ◌==◌, nat_lt, nat_le, List, ◌++◌, int_lt, int_le, int_div, int_rem, bit_and, bit_or, bit_xor, codes, decimal, encode_utf8}
 use Rattle.std.specs.Int.{Width, w8, w16, w32, w64, cast_unsigned, cast_signed, int_shr}
 use Rattle.std.specs.Fmt.{signed_decimal}
-use Rattle.em_core.specs.declared.ty.IntKind.{IntKind}
-use Rattle.em_core.specs.declared.ty.IntKind.TheVariants.{I8, I16, I32, I64, Isize, U8, U16, U32, U64, Usize}
+use Rattle.em_base.specs.declared.int_kind.IntKind.{IntKind}
+use Rattle.em_base.specs.declared.int_kind.IntKind.TheVariants.{I8, I16, I32, I64, Isize, U8, U16, U32, U64, Usize}
 use Rattle.em_core.specs.declared.operator.Constant.{Constant}
 use Rattle.em_core.specs.declared.operator.Constant.TheVariants as constant
 use Rattle.em_core.specs.declared.operator.UnaryOp.{UnaryOp}

@@ -9,7 +9,11 @@ pub mod Matching
 pub mod Calls
 pub mod Steps
 pub mod Runs
-pub mod Types
 pub mod Nodes
+pub mod Fitting
+pub mod Types
+pub mod Naming
+pub mod Rules
+pub mod Deciding
 pub mod Typed
 pub mod Examples

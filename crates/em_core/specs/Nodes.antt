@@ -1,5 +1,5 @@
 -- The nodes of an expression and of a type, by child numbers.
-use Rattle.std.specs.Prelude.{ℕ, List, [], ◌∷◌, ◌++◌, map, Option, Some, slice_get, option_and_then}
+use Rattle.std.specs.Prelude.{ℕ, List, [], ◌∷◌, map, Option, Some, slice_get, option_and_then}
 use Rattle.em_core.specs.declared.ty.Ty.{Ty, out-Ty}
 use Rattle.em_core.specs.declared.ty.Ty.TheOpen.{Ty-F}
 use Rattle.em_core.specs.declared.expr.Arm.{Arm, out-Arm}
@@ -48,11 +48,7 @@ type_children (Ty-F.Array t n) = t ∷ []
 type_children (Ty-F.Slice t) = t ∷ []
 type_children (Ty-F.Ref t unique) = t ∷ []
 type_children (Ty-F.Boxed t) = t ∷ []
-type_children (Ty-F.DynFn kind ts t) = ts ++ t ∷ []
+type_children (Ty-F.DynFn kind ts t) = t ∷ ts
 type_children (Ty-F.ArrayIter t) = t ∷ []
 type_children (Ty-F.RefIter t) = t ∷ []
 type_children _ = []
-
-abbrev pub type_at_path : Ty → List ℕ → Option Ty
-type_at_path t [] = Some t
-type_at_path t (n ∷ p) = option_and_then (λ c. type_at_path c p) (slice_get (type_children (out-Ty t)) n)

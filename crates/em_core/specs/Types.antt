@@ -1,12 +1,19 @@
 -- What types are: Copy, parts, drop-free, and whether a value holds a reference (Reference, "Special types and traits", "Copy", and "Destructors").
-use Rattle.std.specs.Prelude.{◌≡◌, ℕ, Bool, true, false, Some, IsSome, Contains, slice_get}
+use Rattle.std.specs.Prelude.{◌≡◌, ℕ, ◌<◌, Bool, true, false, List, [], ◌∷◌, length, Some, IsSome, IsSomeAnd, IsTrue, All, Contains, slice_get, ⊤}
 use Rattle.em_core.specs.declared.ty.Ty.{Ty, out-Ty}
 use Rattle.em_core.specs.declared.ty.Ty.TheOpen.{Ty-F}
-use Rattle.em_core.specs.declared.ty.IntKind.{IntKind}
+use Rattle.em_base.specs.declared.int_kind.IntKind.{IntKind}
 use Rattle.em_core.specs.declared.definition.TypeDef.{TypeDef}
 use Rattle.em_core.specs.declared.definition.Variant.{Variant}
 use Rattle.em_core.specs.declared.program.Core.{Core}
-use Rattle.em_core.specs.Facts.{drop_of}
+use Rattle.em_core.specs.Facts.{drop_of, closure_of}
+use Rattle.em_core.specs.Fitting.{is_sized}
+use Rattle.em_core.specs.Nodes.{type_children}
+use Rattle.em_core.specs.declared.ty.Ty as ty
+
+abbrev pub is_ref : Ty-F Ty → Bool
+is_ref (Ty-F.Ref t unique) = true
+is_ref _ = false
 
 module _ (core : Core) where
   -- integers, truth values, characters, unit, shared references, arrays of Copy, types that derive Copy, and closures that say so
@@ -50,3 +57,28 @@ module _ (core : Core) where
 
   abbrev pub HoldsReference : Ty → Type 0
   HoldsReference t = (u : Ty) × (IsPart u t) × Refers (out-Ty u)
+
+  -- ---- the types that a Core may name
+
+  -- its number names a type or a closure, and Str, Slice, Dyn and DynFn stand only behind a reference or a box
+  unfoldable pub FormOk : Ty-F Ty → Type 0
+  FormOk (Ty-F.Def d) = d < length core.types
+  FormOk (Ty-F.Closure id copy drop_free refers) = IsSomeAnd (closure_of core id) (λ e. e.ty ≡ ty.Closure id copy drop_free refers)
+  FormOk (Ty-F.Array t n) = IsTrue (is_sized (out-Ty t))
+  FormOk (Ty-F.ArrayIter t) = IsTrue (is_sized (out-Ty t))
+  FormOk (Ty-F.RefIter t) = IsTrue (is_ref (out-Ty t))
+  FormOk (Ty-F.Slice t) = IsTrue (is_sized (out-Ty t))
+  FormOk (Ty-F.DynFn k ts t) = All (λ u. IsTrue (is_sized (out-Ty u))) ts × IsTrue (is_sized (out-Ty t))
+  FormOk _ = ⊤
+
+  mutual
+    pub data TypeOk : Ty → Type 0 where
+      type : {t : Ty} → FormOk (out-Ty t) → TypesOk (type_children (out-Ty t)) → TypeOk t
+
+    pub data TypesOk : List Ty → Type 0 where
+      none : TypesOk []
+      more : {t : Ty} {ts : List Ty} → TypeOk t → TypesOk ts → TypesOk (t ∷ ts)
+
+  -- the type of a value: of a slot, a field, a result
+  unfoldable pub ValueTypeOk : Ty → Type 0
+  ValueTypeOk t = IsTrue (is_sized (out-Ty t)) × TypeOk t

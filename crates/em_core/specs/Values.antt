@@ -2,8 +2,8 @@
 use Rattle.std.specs.Prelude.{ℕ, zero, suc, ℤ, Bool, true, false, ◌&&◌, if◌then◌else◌, ◌==◌, List, [], ◌∷◌, Option, Some, None}
 use Rattle.em_core.specs.declared.ty.Ty.{Ty, out-Ty}
 use Rattle.em_core.specs.declared.ty.Ty.TheOpen.{Ty-F}
-use Rattle.em_core.specs.declared.ty.IntKind.{IntKind}
-use Rattle.em_core.specs.declared.ty.IntKind.TheVariants.{I8, I16, I32, I64, Isize, U8, U16, U32, U64, Usize}
+use Rattle.em_base.specs.declared.int_kind.IntKind.{IntKind}
+use Rattle.em_base.specs.declared.int_kind.IntKind.TheVariants.{I8, I16, I32, I64, Isize, U8, U16, U32, U64, Usize}
 
 -- what is seen of a run
 pub data Event : Type 0 where

@@ -1,7 +1,7 @@
 //! Runs of small Cores, as the machine's definitions compute them. `docs/MACHINE.md` has the Rust programs that they stand for.
 
-ghost use Rattle.std.specs.Prelude.{◌≡◌, [], ◌∷◌, ◌++◌, pos, negsuc, codes};
-ghost use Rattle.em_core.specs.declared.ty.IntKind.TheVariants.{I32, U8};
+ghost use Rattle.std.specs.Prelude.{◌≡◌, Bool, false, [], ◌∷◌, ◌++◌, pos, negsuc, codes};
+ghost use Rattle.em_base.specs.declared.int_kind.IntKind.TheVariants.{I32, U8};
 ghost use Rattle.em_core.specs.declared.operator.BinaryOp.TheVariants.{Add, Subtract, Multiply, Divide, Remainder, Xor, ShiftLeft, ShiftRight};
 ghost use Rattle.em_core.specs.Values.{Printed, Dropped, Panicked, PanickedWith, Aborted};
 ghost use Rattle.em_core.specs.Runs.{events};
@@ -10,7 +10,7 @@ ghost use Rattle.em_core.specs.Examples.Drops.{owner_first, fields, moved_into_c
 ghost use Rattle.em_core.specs.Examples.Panics.{panic_in_part, unwinding, panic_in_drop, abort, panic_in_assignment, panic_value, operation, negation, least, indexed};
 ghost use Rattle.em_core.specs.Examples.Closures.{whole_variable, one_field, whole_value, copied_field, counter, two_ways, boxed_once, nested_whole, nested_field, capture_order};
 ghost use Rattle.em_core.specs.Examples.Values.{by_value, broken_off, by_reference, counted, returns, matched_by_move, matched_by_reference, failing_let, trait_object, formats, kinds, complements};
-ghost use Rattle.em_core.specs.Examples.Types.{GivesInMain, whole_main, no_slot};
+ghost use Rattle.em_core.specs.Examples.Types.{InMain, whole_main, no_slot};
 ghost use Rattle.em_core.specs.declared.ty.Ty.{Ty, Unit};
 ghost use Rattle.em_core.specs.Examples.Places.{repeated, written_through, sliced, partly_moved, out_of_box, ended_frame, closed_scope};
 
@@ -109,6 +109,6 @@ pub fn patterns_and_complements()
 
 /// A body whose parts fit gives its type, and an expression that names a slot out of range has none.
 pub fn types_fit()
-    ensures whole_main { GivesInMain whole_main Unit }
-    ensures no_slot { (t : Ty) → GivesInMain no_slot t → ⊥ }
+    ensures whole_main { InMain whole_main Unit false }
+    ensures no_slot { (t : Ty) (ends : Bool) → InMain no_slot t ends → ⊥ }
 {}

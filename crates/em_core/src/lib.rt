@@ -17,9 +17,11 @@ mod place;
 mod program;
 mod same;
 mod ty;
+mod typed;
 
 pub use copying::is_copy_type;
 pub use definition::{TypeDef, Variant};
+pub use em_base::IntKind;
 pub use expr::{Arm, Expr, Piece};
 pub use function::{Capture, ClosureEntry, FieldStep, Function, Variable};
 pub use laws::{
@@ -34,4 +36,5 @@ pub use pattern::{Binding, Pattern, PatternPart, Test, VariantField};
 pub use place::{Base, PlaceExpr, PlaceStep};
 pub use program::{Core, Difference};
 pub use same::{same_type, same_types};
-pub use ty::{ClosureKind, IntKind, Ty};
+pub use ty::{ClosureKind, Ty};
+pub use typed::{body_ok, def_ok, entry_ok, method_ok};

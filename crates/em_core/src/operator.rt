@@ -1,5 +1,4 @@
-use crate::ty::IntKind;
-use em_base::Text;
+use em_base::{IntKind, Text};
 
 /// The value that a literal gives.
 #[derive(Drop)]

@@ -1,8 +1,8 @@
 -- Panics: the drops on the way out, a panic in a drop, and the panics of operators and indices.
 use Rattle.std.specs.Prelude.{false, ℕ, ℤ, pos, negsuc, [], ◌∷◌, Some, codes}
 use Rattle.em_core.specs.declared.ty.Ty.{Def, Unit, Int}
-use Rattle.em_core.specs.declared.ty.IntKind.{IntKind}
-use Rattle.em_core.specs.declared.ty.IntKind.TheVariants.{I32, Usize}
+use Rattle.em_base.specs.declared.int_kind.IntKind.{IntKind}
+use Rattle.em_base.specs.declared.int_kind.IntKind.TheVariants.{I32, Usize}
 use Rattle.em_core.specs.declared.expr.Expr.{Expr, roll-Expr}
 use Rattle.em_core.specs.declared.expr.Expr.TheOpen.{Expr-F}
 use Rattle.em_core.specs.declared.operator.Constant.TheVariants as constant

@@ -2,7 +2,7 @@
 use Rattle.std.specs.Prelude.{ℕ, pos, true, [], ◌∷◌, codes}
 use Rattle.em_core.specs.declared.ty.Ty.{Ty, Def, Unit, Int, roll-Ty}
 use Rattle.em_core.specs.declared.ty.Ty.TheOpen.{Ty-F}
-use Rattle.em_core.specs.declared.ty.IntKind.TheVariants.{Usize}
+use Rattle.em_base.specs.declared.int_kind.IntKind.TheVariants.{Usize}
 use Rattle.em_core.specs.declared.expr.Expr.{Expr, roll-Expr}
 use Rattle.em_core.specs.declared.expr.Expr.TheOpen.{Expr-F}
 use Rattle.em_core.specs.declared.place.PlaceExpr.{PlaceExpr}

@@ -2,7 +2,7 @@
 use Rattle.std.specs.Prelude.{ℕ, pos, Bool, true, false, List, [], ◌∷◌, ◌++◌, Option, Some, None, codes}
 use Rattle.em_core.specs.declared.ty.Ty.{Ty, Unit, Def, Int, Closure, roll-Ty}
 use Rattle.em_core.specs.declared.ty.Ty.TheOpen.{Ty-F}
-use Rattle.em_core.specs.declared.ty.IntKind.TheVariants.{I32}
+use Rattle.em_base.specs.declared.int_kind.IntKind.TheVariants.{I32}
 use Rattle.em_core.specs.declared.ty.ClosureKind.{ClosureKind}
 use Rattle.em_core.specs.declared.expr.Expr.{Expr, roll-Expr}
 use Rattle.em_core.specs.declared.expr.Expr.TheOpen.{Expr-F}

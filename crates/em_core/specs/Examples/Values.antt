@@ -2,7 +2,7 @@
 use Rattle.std.specs.Prelude.{ℕ, pos, negsuc, true, List, [], ◌∷◌, Some, None, codes, map}
 use Rattle.em_core.specs.declared.ty.Ty.{Ty, Def, Unit, Dyn, roll-Ty}
 use Rattle.em_core.specs.declared.ty.Ty.TheOpen.{Ty-F}
-use Rattle.em_core.specs.declared.ty.IntKind.TheVariants.{I32, U8}
+use Rattle.em_base.specs.declared.int_kind.IntKind.TheVariants.{I32, U8}
 use Rattle.em_core.specs.declared.expr.Expr.{Expr, roll-Expr}
 use Rattle.em_core.specs.declared.expr.Expr.TheOpen.{Expr-F}
 use Rattle.em_core.specs.declared.expr.Arm.{Arm, roll-Arm}

@@ -1,60 +1,31 @@
-use Rattle.std.proofs.Common.{refl, ◌≡◌, subst, ℕ, Bool, false, [], ◌∷◌, Some, None, rules, codes}
-use Rattle.em_core.specs.declared.ty.Ty.{Ty, Unit, Def, out-Ty}
-use Rattle.em_core.specs.declared.expr.Expr.{Expr, out-Expr}
-use Rattle.em_core.specs.declared.expr.Expr.TheOpen.{Expr-F}
-use Rattle.em_core.specs.Values.{Fn}
-use Rattle.em_core.specs.Typed
-use Rattle.em_core.specs.declared.place.PlaceExpr.{PlaceExpr}
-use Rattle.em_core.specs.Examples.Short.{int, num, ty_d, d, p, init, say, slot, def}
-use Rattle.em_core.specs.Examples.Types.{GivesInMain, no_slot}
-use Rattle.em_core.specs.Examples.Drops.{fields}
+use Rattle.std.proofs.Common.{refl, ◌≡◌, ◌<◌, ℕ, zero, suc, Bool, false, List, [], ◌∷◌, inl, arith, codes}
+use Rattle.std.specs.Prelude.{All}
+use Rattle.em_core.specs.declared.ty.Ty.{Ty, Unit, Def}
+use Rattle.em_core.specs.declared.expr.Expr.{Expr}
+use Rattle.em_core.specs.Fitting.{Fits, AllFit, EachFits}
+use Rattle.em_core.specs.Rules
+use Rattle.em_core.specs.Examples.Short.{int, num, ty_d, d, p, init, say}
+use Rattle.em_core.specs.Examples.Types.{InMain, no_slot}
+use Rattle.em_core.proofs.GivesLemmas.{has_type_given}
 use Rattle.em_core.proofs.laws.types_fit.Goals as goal
 
-one : GivesInMain (num 1) int
-unfolding Rattle.em_core.specs.declared.expr.Expr.TheBlock.hidden-the_row-Expr-0 Rattle.em_core.specs.declared.expr.Expr.TheBlock.shown-the_row-Expr-0
-    Rattle.em_core.specs.declared.expr.Expr.TheBlock.hidden-the_row-Expr-1 Rattle.em_core.specs.declared.expr.Expr.TheBlock.shown-the_row-Expr-1
-    Rattle.em_core.specs.declared.expr.Expr.TheBlock.hidden-the_row-Arm-2 Rattle.em_core.specs.declared.expr.Expr.TheBlock.shown-the_row-Arm-2
-    Rattle.em_core.specs.declared.ty.Ty.TheBlock.hidden-the_row-Ty-0 Rattle.em_core.specs.declared.ty.Ty.TheBlock.shown-the_row-Ty-0
-    Rattle.em_core.specs.declared.ty.Ty.TheBlock.hidden-the_row-Ty-1 Rattle.em_core.specs.declared.ty.Ty.TheBlock.shown-the_row-Ty-1
-    Rattle.em_core.specs.declared.expr.Expr.TheViews.out-Expr Rattle.em_core.specs.declared.expr.Expr.TheViews.roll-Expr
-    Rattle.em_core.specs.declared.ty.Ty.TheViews.out-Ty Rattle.em_core.specs.declared.ty.Ty.TheViews.roll-Ty
-    denote.Hole.Carrier.out denote.Hole.Carrier.roll denote.Hole.Carrier.shown denote.Hole.Carrier.hidden Rattle.std.specs.Fmt.digits lib.Utf8.encode
-one = Typed.Gives.const refl (refl, refl)
+same_all : (ts : List Ty) → AllFit ts ts
+unfolding AllFit Fits
+same_all ts = (refl, λ k e lt. inl refl)
 
-two : GivesInMain (num 2) int
-unfolding Rattle.em_core.specs.declared.expr.Expr.TheBlock.hidden-the_row-Expr-0 Rattle.em_core.specs.declared.expr.Expr.TheBlock.shown-the_row-Expr-0
-    Rattle.em_core.specs.declared.expr.Expr.TheBlock.hidden-the_row-Expr-1 Rattle.em_core.specs.declared.expr.Expr.TheBlock.shown-the_row-Expr-1
-    Rattle.em_core.specs.declared.expr.Expr.TheBlock.hidden-the_row-Arm-2 Rattle.em_core.specs.declared.expr.Expr.TheBlock.shown-the_row-Arm-2
-    Rattle.em_core.specs.declared.ty.Ty.TheBlock.hidden-the_row-Ty-0 Rattle.em_core.specs.declared.ty.Ty.TheBlock.shown-the_row-Ty-0
-    Rattle.em_core.specs.declared.ty.Ty.TheBlock.hidden-the_row-Ty-1 Rattle.em_core.specs.declared.ty.Ty.TheBlock.shown-the_row-Ty-1
-    Rattle.em_core.specs.declared.expr.Expr.TheViews.out-Expr Rattle.em_core.specs.declared.expr.Expr.TheViews.roll-Expr
-    Rattle.em_core.specs.declared.ty.Ty.TheViews.out-Ty Rattle.em_core.specs.declared.ty.Ty.TheViews.roll-Ty
-    denote.Hole.Carrier.out denote.Hole.Carrier.roll denote.Hole.Carrier.shown denote.Hole.Carrier.hidden Rattle.std.specs.Fmt.digits lib.Utf8.encode
-two = Typed.Gives.const refl (refl, refl)
+-- of one element
+only : {A : Type 0} (P : A → Type 0) (x : A) → P x → All P (x ∷ [])
+only P x h zero e lt = h
+only P x h (suc k) e lt = absurd (grind arith)
 
-d_of : (n : ℕ) → GivesInMain (num n) int → GivesInMain (d n) ty_d
-unfolding Rattle.em_core.specs.declared.expr.Expr.TheBlock.hidden-the_row-Expr-0 Rattle.em_core.specs.declared.expr.Expr.TheBlock.shown-the_row-Expr-0
-    Rattle.em_core.specs.declared.expr.Expr.TheBlock.hidden-the_row-Expr-1 Rattle.em_core.specs.declared.expr.Expr.TheBlock.shown-the_row-Expr-1
-    Rattle.em_core.specs.declared.expr.Expr.TheBlock.hidden-the_row-Arm-2 Rattle.em_core.specs.declared.expr.Expr.TheBlock.shown-the_row-Arm-2
-    Rattle.em_core.specs.declared.ty.Ty.TheBlock.hidden-the_row-Ty-0 Rattle.em_core.specs.declared.ty.Ty.TheBlock.shown-the_row-Ty-0
-    Rattle.em_core.specs.declared.ty.Ty.TheBlock.hidden-the_row-Ty-1 Rattle.em_core.specs.declared.ty.Ty.TheBlock.shown-the_row-Ty-1
-    Rattle.em_core.specs.declared.expr.Expr.TheViews.out-Expr Rattle.em_core.specs.declared.expr.Expr.TheViews.roll-Expr
-    Rattle.em_core.specs.declared.ty.Ty.TheViews.out-Ty Rattle.em_core.specs.declared.ty.Ty.TheViews.roll-Ty
-    denote.Hole.Carrier.out denote.Hole.Carrier.roll denote.Hole.Carrier.shown denote.Hole.Carrier.hidden Rattle.std.specs.Fmt.digits lib.Utf8.encode
-d_of n h = Typed.Gives.build refl (def (codes "D") (int ∷ []) (Some 0), record { fields = int ∷ [] }, refl, refl) (Typed.GivesAll.more h Typed.GivesAll.none) (Typed.Fits.same refl, tt) refl
+none : {A : Type 0} (P : A → Type 0) → All P []
+none P k e lt = absurd (grind arith)
 
-pair : GivesInMain (p 1 2) (Def 1)
-unfolding Rattle.em_core.specs.declared.expr.Expr.TheBlock.hidden-the_row-Expr-0 Rattle.em_core.specs.declared.expr.Expr.TheBlock.shown-the_row-Expr-0
-    Rattle.em_core.specs.declared.expr.Expr.TheBlock.hidden-the_row-Expr-1 Rattle.em_core.specs.declared.expr.Expr.TheBlock.shown-the_row-Expr-1
-    Rattle.em_core.specs.declared.expr.Expr.TheBlock.hidden-the_row-Arm-2 Rattle.em_core.specs.declared.expr.Expr.TheBlock.shown-the_row-Arm-2
-    Rattle.em_core.specs.declared.ty.Ty.TheBlock.hidden-the_row-Ty-0 Rattle.em_core.specs.declared.ty.Ty.TheBlock.shown-the_row-Ty-0
-    Rattle.em_core.specs.declared.ty.Ty.TheBlock.hidden-the_row-Ty-1 Rattle.em_core.specs.declared.ty.Ty.TheBlock.shown-the_row-Ty-1
-    Rattle.em_core.specs.declared.expr.Expr.TheViews.out-Expr Rattle.em_core.specs.declared.expr.Expr.TheViews.roll-Expr
-    Rattle.em_core.specs.declared.ty.Ty.TheViews.out-Ty Rattle.em_core.specs.declared.ty.Ty.TheViews.roll-Ty
-    denote.Hole.Carrier.out denote.Hole.Carrier.roll denote.Hole.Carrier.shown denote.Hole.Carrier.hidden Rattle.std.specs.Fmt.digits lib.Utf8.encode
-pair = Typed.Gives.build refl (def (codes "P") (ty_d ∷ ty_d ∷ []) None, record { fields = ty_d ∷ ty_d ∷ [] }, refl, refl) (Typed.GivesAll.more (d_of 1 one) (Typed.GivesAll.more (d_of 2 two) Typed.GivesAll.none)) (Typed.Fits.same refl, (Typed.Fits.same refl, tt)) refl
+each_one : (t : Ty) → EachFits (t ∷ []) t
+unfolding EachFits Fits
+each_one t = only (λ u. Fits u t) t (inl refl)
 
-first : GivesInMain (init 0 (p 1 2)) Unit
+one : InMain (num 1) int false
 unfolding Rattle.em_core.specs.declared.expr.Expr.TheBlock.hidden-the_row-Expr-0 Rattle.em_core.specs.declared.expr.Expr.TheBlock.shown-the_row-Expr-0
     Rattle.em_core.specs.declared.expr.Expr.TheBlock.hidden-the_row-Expr-1 Rattle.em_core.specs.declared.expr.Expr.TheBlock.shown-the_row-Expr-1
     Rattle.em_core.specs.declared.expr.Expr.TheBlock.hidden-the_row-Arm-2 Rattle.em_core.specs.declared.expr.Expr.TheBlock.shown-the_row-Arm-2
@@ -62,10 +33,11 @@ unfolding Rattle.em_core.specs.declared.expr.Expr.TheBlock.hidden-the_row-Expr-0
     Rattle.em_core.specs.declared.ty.Ty.TheBlock.hidden-the_row-Ty-1 Rattle.em_core.specs.declared.ty.Ty.TheBlock.shown-the_row-Ty-1
     Rattle.em_core.specs.declared.expr.Expr.TheViews.out-Expr Rattle.em_core.specs.declared.expr.Expr.TheViews.roll-Expr
     Rattle.em_core.specs.declared.ty.Ty.TheViews.out-Ty Rattle.em_core.specs.declared.ty.Ty.TheViews.roll-Ty
-    denote.Hole.Carrier.out denote.Hole.Carrier.roll denote.Hole.Carrier.shown denote.Hole.Carrier.hidden Rattle.std.specs.Fmt.digits lib.Utf8.encode
-first = Typed.Gives.init refl pair refl (Typed.Fits.same refl) refl
+    denote.Hole.Carrier.out denote.Hole.Carrier.roll denote.Hole.Carrier.shown denote.Hole.Carrier.hidden
+    Rattle.em_core.specs.Rules.Asks Rattle.em_core.specs.Rules.FormatFits
+one = Rules.Gives.gives {ts = []} {ends = false} Rules.GivesAll.none refl refl
 
-last : GivesInMain (say (codes "end")) Unit
+two : InMain (num 2) int false
 unfolding Rattle.em_core.specs.declared.expr.Expr.TheBlock.hidden-the_row-Expr-0 Rattle.em_core.specs.declared.expr.Expr.TheBlock.shown-the_row-Expr-0
     Rattle.em_core.specs.declared.expr.Expr.TheBlock.hidden-the_row-Expr-1 Rattle.em_core.specs.declared.expr.Expr.TheBlock.shown-the_row-Expr-1
     Rattle.em_core.specs.declared.expr.Expr.TheBlock.hidden-the_row-Arm-2 Rattle.em_core.specs.declared.expr.Expr.TheBlock.shown-the_row-Arm-2
@@ -73,8 +45,69 @@ unfolding Rattle.em_core.specs.declared.expr.Expr.TheBlock.hidden-the_row-Expr-0
     Rattle.em_core.specs.declared.ty.Ty.TheBlock.hidden-the_row-Ty-1 Rattle.em_core.specs.declared.ty.Ty.TheBlock.shown-the_row-Ty-1
     Rattle.em_core.specs.declared.expr.Expr.TheViews.out-Expr Rattle.em_core.specs.declared.expr.Expr.TheViews.roll-Expr
     Rattle.em_core.specs.declared.ty.Ty.TheViews.out-Ty Rattle.em_core.specs.declared.ty.Ty.TheViews.roll-Ty
-    denote.Hole.Carrier.out denote.Hole.Carrier.roll denote.Hole.Carrier.shown denote.Hole.Carrier.hidden Rattle.std.specs.Fmt.digits lib.Utf8.encode
-last = Typed.Gives.print refl refl Typed.GivesAll.none (search rules) refl
+    denote.Hole.Carrier.out denote.Hole.Carrier.roll denote.Hole.Carrier.shown denote.Hole.Carrier.hidden
+    Rattle.em_core.specs.Rules.Asks Rattle.em_core.specs.Rules.FormatFits
+two = Rules.Gives.gives {ts = []} {ends = false} Rules.GivesAll.none refl refl
+
+d_one : InMain (d 1) ty_d false
+unfolding Rattle.em_core.specs.declared.expr.Expr.TheBlock.hidden-the_row-Expr-0 Rattle.em_core.specs.declared.expr.Expr.TheBlock.shown-the_row-Expr-0
+    Rattle.em_core.specs.declared.expr.Expr.TheBlock.hidden-the_row-Expr-1 Rattle.em_core.specs.declared.expr.Expr.TheBlock.shown-the_row-Expr-1
+    Rattle.em_core.specs.declared.expr.Expr.TheBlock.hidden-the_row-Arm-2 Rattle.em_core.specs.declared.expr.Expr.TheBlock.shown-the_row-Arm-2
+    Rattle.em_core.specs.declared.ty.Ty.TheBlock.hidden-the_row-Ty-0 Rattle.em_core.specs.declared.ty.Ty.TheBlock.shown-the_row-Ty-0
+    Rattle.em_core.specs.declared.ty.Ty.TheBlock.hidden-the_row-Ty-1 Rattle.em_core.specs.declared.ty.Ty.TheBlock.shown-the_row-Ty-1
+    Rattle.em_core.specs.declared.expr.Expr.TheViews.out-Expr Rattle.em_core.specs.declared.expr.Expr.TheViews.roll-Expr
+    Rattle.em_core.specs.declared.ty.Ty.TheViews.out-Ty Rattle.em_core.specs.declared.ty.Ty.TheViews.roll-Ty
+    denote.Hole.Carrier.out denote.Hole.Carrier.roll denote.Hole.Carrier.shown denote.Hole.Carrier.hidden
+    Rattle.em_core.specs.Rules.Asks Rattle.em_core.specs.Rules.FormatFits
+d_one = Rules.Gives.gives {ts = int ∷ []} {ends = false} (Rules.GivesAll.more one Rules.GivesAll.none) refl (same_all (int ∷ []))
+
+d_two : InMain (d 2) ty_d false
+unfolding Rattle.em_core.specs.declared.expr.Expr.TheBlock.hidden-the_row-Expr-0 Rattle.em_core.specs.declared.expr.Expr.TheBlock.shown-the_row-Expr-0
+    Rattle.em_core.specs.declared.expr.Expr.TheBlock.hidden-the_row-Expr-1 Rattle.em_core.specs.declared.expr.Expr.TheBlock.shown-the_row-Expr-1
+    Rattle.em_core.specs.declared.expr.Expr.TheBlock.hidden-the_row-Arm-2 Rattle.em_core.specs.declared.expr.Expr.TheBlock.shown-the_row-Arm-2
+    Rattle.em_core.specs.declared.ty.Ty.TheBlock.hidden-the_row-Ty-0 Rattle.em_core.specs.declared.ty.Ty.TheBlock.shown-the_row-Ty-0
+    Rattle.em_core.specs.declared.ty.Ty.TheBlock.hidden-the_row-Ty-1 Rattle.em_core.specs.declared.ty.Ty.TheBlock.shown-the_row-Ty-1
+    Rattle.em_core.specs.declared.expr.Expr.TheViews.out-Expr Rattle.em_core.specs.declared.expr.Expr.TheViews.roll-Expr
+    Rattle.em_core.specs.declared.ty.Ty.TheViews.out-Ty Rattle.em_core.specs.declared.ty.Ty.TheViews.roll-Ty
+    denote.Hole.Carrier.out denote.Hole.Carrier.roll denote.Hole.Carrier.shown denote.Hole.Carrier.hidden
+    Rattle.em_core.specs.Rules.Asks Rattle.em_core.specs.Rules.FormatFits
+d_two = Rules.Gives.gives {ts = int ∷ []} {ends = false} (Rules.GivesAll.more two Rules.GivesAll.none) refl (same_all (int ∷ []))
+
+pair : InMain (p 1 2) (Def 1) false
+unfolding Rattle.em_core.specs.declared.expr.Expr.TheBlock.hidden-the_row-Expr-0 Rattle.em_core.specs.declared.expr.Expr.TheBlock.shown-the_row-Expr-0
+    Rattle.em_core.specs.declared.expr.Expr.TheBlock.hidden-the_row-Expr-1 Rattle.em_core.specs.declared.expr.Expr.TheBlock.shown-the_row-Expr-1
+    Rattle.em_core.specs.declared.expr.Expr.TheBlock.hidden-the_row-Arm-2 Rattle.em_core.specs.declared.expr.Expr.TheBlock.shown-the_row-Arm-2
+    Rattle.em_core.specs.declared.ty.Ty.TheBlock.hidden-the_row-Ty-0 Rattle.em_core.specs.declared.ty.Ty.TheBlock.shown-the_row-Ty-0
+    Rattle.em_core.specs.declared.ty.Ty.TheBlock.hidden-the_row-Ty-1 Rattle.em_core.specs.declared.ty.Ty.TheBlock.shown-the_row-Ty-1
+    Rattle.em_core.specs.declared.expr.Expr.TheViews.out-Expr Rattle.em_core.specs.declared.expr.Expr.TheViews.roll-Expr
+    Rattle.em_core.specs.declared.ty.Ty.TheViews.out-Ty Rattle.em_core.specs.declared.ty.Ty.TheViews.roll-Ty
+    denote.Hole.Carrier.out denote.Hole.Carrier.roll denote.Hole.Carrier.shown denote.Hole.Carrier.hidden
+    Rattle.em_core.specs.Rules.Asks Rattle.em_core.specs.Rules.FormatFits
+pair = Rules.Gives.gives {ts = ty_d ∷ ty_d ∷ []} {ends = false} (Rules.GivesAll.more d_one (Rules.GivesAll.more d_two Rules.GivesAll.none)) refl (same_all (ty_d ∷ ty_d ∷ []))
+
+first : InMain (init 0 (p 1 2)) Unit false
+unfolding Rattle.em_core.specs.declared.expr.Expr.TheBlock.hidden-the_row-Expr-0 Rattle.em_core.specs.declared.expr.Expr.TheBlock.shown-the_row-Expr-0
+    Rattle.em_core.specs.declared.expr.Expr.TheBlock.hidden-the_row-Expr-1 Rattle.em_core.specs.declared.expr.Expr.TheBlock.shown-the_row-Expr-1
+    Rattle.em_core.specs.declared.expr.Expr.TheBlock.hidden-the_row-Arm-2 Rattle.em_core.specs.declared.expr.Expr.TheBlock.shown-the_row-Arm-2
+    Rattle.em_core.specs.declared.ty.Ty.TheBlock.hidden-the_row-Ty-0 Rattle.em_core.specs.declared.ty.Ty.TheBlock.shown-the_row-Ty-0
+    Rattle.em_core.specs.declared.ty.Ty.TheBlock.hidden-the_row-Ty-1 Rattle.em_core.specs.declared.ty.Ty.TheBlock.shown-the_row-Ty-1
+    Rattle.em_core.specs.declared.expr.Expr.TheViews.out-Expr Rattle.em_core.specs.declared.expr.Expr.TheViews.roll-Expr
+    Rattle.em_core.specs.declared.ty.Ty.TheViews.out-Ty Rattle.em_core.specs.declared.ty.Ty.TheViews.roll-Ty
+    denote.Hole.Carrier.out denote.Hole.Carrier.roll denote.Hole.Carrier.shown denote.Hole.Carrier.hidden
+    Rattle.em_core.specs.Rules.Asks Rattle.em_core.specs.Rules.FormatFits
+first = Rules.Gives.gives {ts = Def 1 ∷ []} {ends = false} (Rules.GivesAll.more pair Rules.GivesAll.none) refl (each_one (Def 1))
+
+last : InMain (say (codes "end")) Unit false
+unfolding Rattle.em_core.specs.declared.expr.Expr.TheBlock.hidden-the_row-Expr-0 Rattle.em_core.specs.declared.expr.Expr.TheBlock.shown-the_row-Expr-0
+    Rattle.em_core.specs.declared.expr.Expr.TheBlock.hidden-the_row-Expr-1 Rattle.em_core.specs.declared.expr.Expr.TheBlock.shown-the_row-Expr-1
+    Rattle.em_core.specs.declared.expr.Expr.TheBlock.hidden-the_row-Arm-2 Rattle.em_core.specs.declared.expr.Expr.TheBlock.shown-the_row-Arm-2
+    Rattle.em_core.specs.declared.ty.Ty.TheBlock.hidden-the_row-Ty-0 Rattle.em_core.specs.declared.ty.Ty.TheBlock.shown-the_row-Ty-0
+    Rattle.em_core.specs.declared.ty.Ty.TheBlock.hidden-the_row-Ty-1 Rattle.em_core.specs.declared.ty.Ty.TheBlock.shown-the_row-Ty-1
+    Rattle.em_core.specs.declared.expr.Expr.TheViews.out-Expr Rattle.em_core.specs.declared.expr.Expr.TheViews.roll-Expr
+    Rattle.em_core.specs.declared.ty.Ty.TheViews.out-Ty Rattle.em_core.specs.declared.ty.Ty.TheViews.roll-Ty
+    denote.Hole.Carrier.out denote.Hole.Carrier.roll denote.Hole.Carrier.shown denote.Hole.Carrier.hidden
+    Rattle.em_core.specs.Rules.Asks Rattle.em_core.specs.Rules.FormatFits
+last = Rules.Gives.gives {ts = []} {ends = false} Rules.GivesAll.none refl (refl, none _)
 
 pub returns-clause-whole_main : goal.returns-clause-whole_main
 unfolding Rattle.em_core.specs.declared.expr.Expr.TheBlock.hidden-the_row-Expr-0 Rattle.em_core.specs.declared.expr.Expr.TheBlock.shown-the_row-Expr-0
@@ -84,55 +117,9 @@ unfolding Rattle.em_core.specs.declared.expr.Expr.TheBlock.hidden-the_row-Expr-0
     Rattle.em_core.specs.declared.ty.Ty.TheBlock.hidden-the_row-Ty-1 Rattle.em_core.specs.declared.ty.Ty.TheBlock.shown-the_row-Ty-1
     Rattle.em_core.specs.declared.expr.Expr.TheViews.out-Expr Rattle.em_core.specs.declared.expr.Expr.TheViews.roll-Expr
     Rattle.em_core.specs.declared.ty.Ty.TheViews.out-Ty Rattle.em_core.specs.declared.ty.Ty.TheViews.roll-Ty
-    denote.Hole.Carrier.out denote.Hole.Carrier.roll denote.Hole.Carrier.shown denote.Hole.Carrier.hidden Rattle.std.specs.Fmt.digits lib.Utf8.encode
-returns-clause-whole_main c = Typed.Gives.scope refl (search rules) (Typed.Gives.seq refl (Typed.GivesAll.more first (Typed.GivesAll.more last Typed.GivesAll.none)) (Typed.SequenceGives.on (λ q. absurd cc) Typed.SequenceGives.last))
-
--- two moves that are equal move out of one place
-same_place : (e : Expr) (a b : PlaceExpr) → out-Expr e ≡ Expr-F.Move a → out-Expr e ≡ Expr-F.Move b → a ≡ b
-same_place e a b q r = cc
-
-no_place : (a : PlaceExpr) (t : Ty) → a ≡ slot 1 → Typed.PlaceIs fields (Fn 2) a t → ⊥
-no_place a t q h = missing (subst (λ x. Typed.PlaceIs fields (Fn 2) x t) q h)
-  where
-    missing : Typed.PlaceIs fields (Fn 2) (slot 1) t → ⊥
-    missing r = absurd cc
-
-no : (looping : Bool) (e : Expr) (t : Ty) → out-Expr e ≡ Expr-F.Move (slot 1) → Typed.Gives fields (Fn 2) Unit looping e t → ⊥
-no looping e t p (Typed.Gives.const q h0) = absurd cc
-no looping e t p (Typed.Gives.copy q h0 h1) = absurd cc
-no looping e t p (Typed.Gives.move {p = place} q h0) = no_place place t (same_place e place (slot 1) q p) h0
-no looping e t p (Typed.Gives.ref q h0 h1) = absurd cc
-no looping e t p (Typed.Gives.init q h0 h1 h2 h3) = absurd cc
-no looping e t p (Typed.Gives.assign q h0 h1 h2 h3) = absurd cc
-no looping e t p (Typed.Gives.unary q h0 h1) = absurd cc
-no looping e t p (Typed.Gives.binary q h0 h1 h2) = absurd cc
-no looping e t p (Typed.Gives.compare q h0 h1 h2 h3) = absurd cc
-no looping e t p (Typed.Gives.build q h0 h1 h2 h3) = absurd cc
-no looping e t p (Typed.Gives.array_of q h0 h1 h2) = absurd cc
-no looping e t p (Typed.Gives.repeat q h0 h1 h2) = absurd cc
-no looping e t p (Typed.Gives.box_new q h0 h1 h2) = absurd cc
-no looping e t p (Typed.Gives.range_of q h0 h1 h2 h3) = absurd cc
-no looping e t p (Typed.Gives.make_closure q h0 h1 h2) = absurd cc
-no looping e t p (Typed.Gives.call q h0 h1 h2 h3) = absurd cc
-no looping e t p (Typed.Gives.call_dyn q h0 h1 h2 h3 h4 h5 h6) = absurd cc
-no looping e t p (Typed.Gives.call_by q h0 h1 h2 h3 h4) = absurd cc
-no looping e t p (Typed.Gives.call_once q h0 h1 h2 h3) = absurd cc
-no looping e t p (Typed.Gives.choose q h0 h1 h2 h3 h4) = absurd cc
-no looping e t p (Typed.Gives.match x0 q h0 h1 h2 h3) = absurd cc
-no looping e t p (Typed.Gives.loop q h0 h1 h2 h3) = absurd cc
-no looping e t p (Typed.Gives.break q h0 h1) = absurd cc
-no looping e t p (Typed.Gives.continue q h0 h1) = absurd cc
-no looping e t p (Typed.Gives.return q h0 h1 h2) = absurd cc
-no looping e t p (Typed.Gives.scope q h0 h1) = absurd cc
-no looping e t p (Typed.Gives.seq q h0 h1) = absurd cc
-no looping e t p (Typed.Gives.print q h0 h1 h2 h3) = absurd cc
-no looping e t p (Typed.Gives.panic q h0 h1 h2 h3) = absurd cc
-no looping e t p (Typed.Gives.panic_value q h0 h1) = absurd cc
-no looping e t p (Typed.Gives.to_iter q h0 h1) = absurd cc
-no looping e t p (Typed.Gives.to_ref_iter q h0 h1 h2 h3 h4) = absurd cc
-no looping e t p (Typed.Gives.next x0 q h0 h1 h2 h3 h4) = absurd cc
-no looping e t p (Typed.Gives.drop_value q h0 h1 h2) = absurd cc
-no looping e t p (Typed.Gives.unsize q h0 h1 h2) = absurd cc
+    denote.Hole.Carrier.out denote.Hole.Carrier.roll denote.Hole.Carrier.shown denote.Hole.Carrier.hidden
+    Rattle.em_core.specs.Rules.Asks Rattle.em_core.specs.Rules.FormatFits
+returns-clause-whole_main c = Rules.Gives.gives {ts = Unit ∷ []} {ends = false} (Rules.GivesAll.more (Rules.Gives.gives {ts = Unit ∷ Unit ∷ []} {ends = false} (Rules.GivesAll.more first (Rules.GivesAll.more last Rules.GivesAll.none)) refl tt) Rules.GivesAll.none) refl (only (λ s. s < 1) 0 (grind arith))
 
 pub returns-clause-no_slot : goal.returns-clause-no_slot
 unfolding Rattle.em_core.specs.declared.expr.Expr.TheBlock.hidden-the_row-Expr-0 Rattle.em_core.specs.declared.expr.Expr.TheBlock.shown-the_row-Expr-0
@@ -142,5 +129,6 @@ unfolding Rattle.em_core.specs.declared.expr.Expr.TheBlock.hidden-the_row-Expr-0
     Rattle.em_core.specs.declared.ty.Ty.TheBlock.hidden-the_row-Ty-1 Rattle.em_core.specs.declared.ty.Ty.TheBlock.shown-the_row-Ty-1
     Rattle.em_core.specs.declared.expr.Expr.TheViews.out-Expr Rattle.em_core.specs.declared.expr.Expr.TheViews.roll-Expr
     Rattle.em_core.specs.declared.ty.Ty.TheViews.out-Ty Rattle.em_core.specs.declared.ty.Ty.TheViews.roll-Ty
-    denote.Hole.Carrier.out denote.Hole.Carrier.roll denote.Hole.Carrier.shown denote.Hole.Carrier.hidden Rattle.std.specs.Fmt.digits lib.Utf8.encode
-returns-clause-no_slot c t h = no false no_slot t refl h
+    denote.Hole.Carrier.out denote.Hole.Carrier.roll denote.Hole.Carrier.shown denote.Hole.Carrier.hidden
+    Rattle.em_core.specs.Rules.Asks Rattle.em_core.specs.Rules.FormatFits
+returns-clause-no_slot c t ends h = has_type_given _ _ _ _ false no_slot t ends h (λ ts b. refl)
