@@ -1,19 +1,18 @@
 -- Bodies of literals, and where they end.
-use Rattle.std.proofs.Common.{◌≡◌, ◌≢◌, ◌⊎◌, inl, inr, ℕ, zero, suc, ◌+◌, ◌-◌, ◌<◌, ◌≤◌, Bool, true, false, not, cond, ◌&&◌, ◌||◌, ◌==◌, nat_lt, nat_le, List, [], ◌∷◌, ◌++◌, length, take, drop, get_or, Option, Some, None, refl, sym, ap, ◌∙◌, subst, arith, length-append, append_assoc, append-nil}
-use Rattle.std.proofs.lemmas.Grind.{common_steps}
-use Rattle.std.proofs.lemmas.Bool.{and_parts, both_ways, cases_Bool, or_cases, eqb-true, ltb-true}
+use Rattle.std.proofs.Common.{◌≡◌, ℕ, zero, suc, ◌+◌, ◌<◌, ◌≤◌, Bool, true, false, not, cond, ◌&&◌, ◌||◌, ◌==◌, nat_le, [], ◌∷◌, ◌++◌, length, drop, get_or, Option, Some, None, refl, sym, ap, ◌∙◌, subst, arith, length-append, append_assoc, append-nil}
+use Rattle.std.proofs.lemmas.Bool.{and_parts, both_ways, eqb-true}
 use Rattle.std.proofs.lemmas.Bool.Decides.{nat_tests}
 use Rattle.std.specs.List.{list_all, prefix_len}
 use Rattle.em_lex.specs.declared.piece.Form.{Form}
 use Rattle.em_lex.specs.declared.piece.Form.TheVariants.{Quoted, Single, Raw}
 use Rattle.em_lex.specs.declared.piece.Unit.{Unit as Part}
-use Rattle.em_lex.specs.Characters.{Chars, starts}
-use Rattle.em_lex.specs.Literals.{hashes, closing, IsUnit, Units, none, more, Loose, plain, pair, NoUnit, not_quote, OneCharacter, escape, broken, ClosesFirst, IsBody, Closed}
+use Rattle.em_lex.specs.Characters.{Chars}
+use Rattle.em_lex.specs.Literals.{hashes, closing, IsUnit, Units, none, more, Loose, plain, pair, NoUnit, OneCharacter, escape, broken, ClosesFirst, Closed}
 use Rattle.em_lex.specs.Scan.{first, after, unit_at, Reading, ahead, listed, read, string_len, raw_len, hash, no_quote, single_len, one_len, some_if, close_len, closing_len}
-use Rattle.em_lex.proofs.Base.{impossible, by_test, pick, both, not_true, or_false, and_false, Passed, passed, prefix_all, prefix_most, take_front, drop_front, index_front}
+use Rattle.em_lex.proofs.Base.{impossible, by_test, pick, both, not_true, or_false, Passed, passed, prefix_all, prefix_most, drop_front, index_front}
 use Rattle.em_lex.proofs.Indices.{ahead_ahead, ahead-zero, read-bad, read-front, read-end}
 use Rattle.em_lex.proofs.Values.{none_some, some_same}
-use Rattle.em_lex.proofs.UnitLemmas.{Found, unit_found, Split, unit_split, no_unit, unit_none}
+use Rattle.em_lex.proofs.UnitLemmas.{unit_found, unit_split, no_unit, unit_none}
 
 -- ---- what a body denotes
 

@@ -1,23 +1,19 @@
 -- Which step the code takes, by the first characters.
-use Rattle.std.proofs.Common.{◌≡◌, ◌≢◌, ◌⊎◌, inl, inr, ℕ, zero, suc, ◌+◌, ◌-◌, ◌<◌, ◌≤◌, Bool, true, false, not, cond, ◌&&◌, ◌||◌, ◌==◌, nat_lt, nat_le, List, [], ◌∷◌, ◌++◌, length, take, drop, get_or, codes, Option, Some, None, refl, sym, ap, ◌∙◌, subst, arith, length-append, append_assoc, append-nil}
-use Rattle.std.proofs.lemmas.Grind.{common_steps}
-use Rattle.std.proofs.lemmas.Bool.{and_parts, both_ways, cases_Bool, or_cases, eqb-true, ltb-true}
+use Rattle.std.proofs.Common.{◌≡◌, ℕ, zero, suc, ◌+◌, Bool, true, false, ◌&&◌, ◌==◌, [], ◌∷◌, ◌++◌, length, take, drop, get_or, refl, sym, ap, ◌∙◌, subst, arith, length-append, append_assoc}
 use Rattle.std.proofs.lemmas.Bool.Decides.{nat_tests}
-use Rattle.std.specs.Char.{is_ascii_digit, is_ascii_alphabetic}
+use Rattle.std.specs.Char.{is_ascii_digit}
 use Rattle.std.specs.List.{list_all, prefix_len}
-use Rattle.std.specs.Str.{bytes_eq}
 use Rattle.unicode_ident.specs.Ident.{is_xid_continue}
 use Rattle.unicode_ident.proofs.IdentLemmas.{is_xid_continue-ascii}
 use Rattle.em_base.specs.Names.{is_start}
 use Rattle.em_base.specs.declared.edition.Edition.{Edition}
 use Rattle.em_lex.specs.declared.piece.Form.{Form}
 use Rattle.em_lex.specs.declared.piece.Form.TheVariants.{Quoted, Single, Raw}
-use Rattle.em_lex.specs.declared.piece.Piece.{Piece}
-use Rattle.em_lex.specs.declared.piece.Piece.TheVariants.{Trivia as Gap, Token as Took, Fault as Bad}
-use Rattle.em_lex.specs.Characters.{Chars, is_blank, starts, not_line_feed}
-use Rattle.em_lex.specs.Literals.{hashes, lead, opening, closing}
-use Rattle.em_lex.specs.Scan.{first, run, starts_word, hash, trivia_of, block_of, block_len, literal_step, quote_step, lifetime_step, is_none, single_len, word_before, word_before_quote, word_before_hash, hash_step, word_step, raw_word, number_step, mark_step, step}
-use Rattle.em_lex.proofs.Base.{impossible, by_test, pick, no_start, no_continue, blank_start, prefix_all, index_front, take_front, drop_front, digit_continues, is_start-ascii}
+use Rattle.em_lex.specs.declared.piece.Piece.TheVariants.{Trivia as Gap}
+use Rattle.em_lex.specs.Characters.{Chars, is_blank, not_line_feed}
+use Rattle.em_lex.specs.Literals.{hashes, opening}
+use Rattle.em_lex.specs.Scan.{first, run, starts_word, hash, trivia_of, block_of, block_len, literal_step, quote_step, is_none, single_len, word_before, hash_step, word_step, number_step, mark_step, step}
+use Rattle.em_lex.proofs.Base.{no_start, no_continue, blank_start, prefix_all, index_front, take_front, drop_front, is_start-ascii}
 use Rattle.em_lex.proofs.BodyLemmas.{hashes_len, all_hashes}
 
 pub step_word : (e : Edition) (dot : Bool) (c : ℕ) (cs : Chars) → is_start c ≡ true → step e dot (c ∷ cs) ≡ word_step e (c ∷ cs)

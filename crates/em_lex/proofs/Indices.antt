@@ -1,6 +1,5 @@
 -- The recursions of specs/Scan at an index.
-use Rattle.std.proofs.Common.{◌≡◌, ◌≢◌, ℕ, zero, suc, ◌+◌, ◌-◌, ◌<◌, ◌≤◌, Bool, true, false, not, cond, ◌&&◌, ◌||◌, ◌==◌, nat_le, List, [], ◌∷◌, ◌++◌, length, get_or, take, drop, Option, Some, None, refl, sym, ap, ◌∙◌, arith, add-one, add-zero, get_or-drop, append_assoc, append-nil}
-use Rattle.std.proofs.lemmas.Grind.{common_steps}
+use Rattle.std.proofs.Common.{◌≡◌, ◌≢◌, ℕ, zero, suc, ◌+◌, ◌-◌, ◌<◌, ◌≤◌, Bool, true, false, cond, ◌&&◌, ◌==◌, nat_le, [], ◌∷◌, ◌++◌, length, get_or, take, drop, Option, Some, None, refl, sym, ap, ◌∙◌, arith, add-zero, get_or-drop, append_assoc, append-nil}
 use Rattle.std.proofs.lemmas.List.{drop_more, drop_all, take_more}
 use Rattle.std.proofs.lemmas.Str.{encodes-append}
 use Rattle.std.proofs.Common.{encode_utf8_all}
@@ -9,7 +8,7 @@ use Rattle.std.specs.List.{prefix_len}
 use Rattle.em_lex.specs.Characters.{Chars}
 use Rattle.em_lex.specs.declared.piece.Form.{Form}
 use Rattle.em_lex.specs.declared.piece.Unit.{Unit as Part}
-use Rattle.em_lex.specs.Scan.{first, after, block_len, string_len, raw_len, hash, unit_at, Reading, ahead, listed, read_unit, read, value_from, digit_after, and_then}
+use Rattle.em_lex.specs.Scan.{first, after, block_len, string_len, raw_len, hash, unit_at, Reading, ahead, listed, read, value_from, digit_after}
 
 -- the first character of what follows i
 pub first_drop : (cs : Chars) (i : ℕ) → first (drop i cs) ≡ get_or cs i 0

@@ -1,12 +1,11 @@
 -- One list of parts, and one first fault.
-use Rattle.std.proofs.Common.{◌≡◌, ◌≢◌, ◌⊎◌, inl, inr, ℕ, zero, suc, ◌+◌, ◌-◌, ◌<◌, ◌≤◌, Bool, true, false, not, cond, ◌&&◌, ◌||◌, ◌==◌, List, [], ◌∷◌, ◌++◌, length, take, drop, codes, refl, sym, ap, ◌∙◌, subst, arith, length-append, append_assoc, append-nil, encode_utf8_all}
+use Rattle.std.proofs.Common.{◌≡◌, ◌⊎◌, inl, inr, ℕ, ◌<◌, ◌≤◌, Bool, true, false, cond, ◌==◌, List, [], ◌∷◌, ◌++◌, length, take, drop, codes, refl, sym, ap, ◌∙◌, subst, arith, length-append}
 use Rattle.std.proofs.Common.{Option, Some, None}
-use Rattle.std.proofs.lemmas.Grind.{common_steps}
-use Rattle.std.proofs.lemmas.Bool.{and_parts, both_ways, cases_Bool, or_cases, eqb-true, cases_lt}
+use Rattle.std.proofs.lemmas.Bool.{both_ways, or_cases, cases_lt}
 use Rattle.std.proofs.lemmas.Str.{encodes_same}
 use Rattle.std.specs.Char.{is_ascii_digit}
-use Rattle.std.specs.Str.{IsUtf8, IsValidUpTo, all_scalars}
-use Rattle.em_base.specs.Names.{is_word, is_identifier}
+use Rattle.std.specs.Str.{IsUtf8, IsValidUpTo}
+use Rattle.em_base.specs.Names.{is_identifier}
 use Rattle.em_base.specs.declared.edition.Edition.{Edition}
 use Rattle.em_base.specs.declared.token.Token.{Token}
 use Rattle.em_base.specs.declared.token.TokenKind.{TokenKind}
@@ -20,14 +19,13 @@ use Rattle.em_lex.specs.declared.piece.Piece.TheVariants.{Trivia as Gap, Token a
 use Rattle.em_lex.specs.Characters.{Chars, starts, begins}
 use Rattle.em_lex.specs.Trivia.{IsTrivia, blank, line, block, begins_comment}
 use Rattle.em_lex.specs.Literals.{opening, closing, IsLiteral}
-use Rattle.em_lex.specs.Numbers.{IsInt}
-use Rattle.em_lex.specs.Spelling.{Spells, Longest, is_among, opening_delimiters, closing_delimiters, punctuation}
+use Rattle.em_lex.specs.Spelling.{Spells, is_among, opening_delimiters, closing_delimiters, punctuation}
 use Rattle.em_lex.specs.Faults.{Fault as Stands, unknown, comment, prefix, hash_r, hash_br, float, number, number_suffix, unclosed, literal_suffix, body, lifetime, NumberAt, First, rank, ToldBefore}
 use Rattle.em_lex.specs.Lexing.{Part, trivia, token, spelled, is_dot, TokenAt, PartAt, Tiles, byte_len, tokens_of, IsText, Lexes, Fails, FirstFault}
-use Rattle.em_lex.specs.Scan.{block_of, block_len, trivia_of, step}
-use Rattle.em_lex.proofs.Base.{impossible, by_test, any_of, same_front, take_front, drop_front}
+use Rattle.em_lex.specs.Scan.{block_of, block_len, step}
+use Rattle.em_lex.proofs.Base.{impossible, by_test, same_front}
 use Rattle.em_lex.proofs.Heads.{step_line, step_block}
-use Rattle.em_lex.proofs.Pieces.{Front, Holds, Covered, Told}
+use Rattle.em_lex.proofs.Pieces.{Holds, Covered, Told}
 use Rattle.em_lex.proofs.NumberLemmas.{marked}
 use Rattle.em_lex.proofs.TriviaLemmas.{trivia_step}
 use Rattle.em_lex.proofs.StepLemmas.{holds, covers, told, opening_some}

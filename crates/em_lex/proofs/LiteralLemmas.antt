@@ -1,30 +1,25 @@
 -- At the opening of a literal.
-use Rattle.std.proofs.Common.{◌≡◌, ◌≢◌, ◌⊎◌, inl, inr, ℕ, zero, suc, ◌+◌, ◌-◌, ◌<◌, ◌≤◌, Bool, true, false, not, cond, ◌&&◌, ◌||◌, ◌==◌, nat_lt, nat_le, List, [], ◌∷◌, ◌++◌, length, take, drop, get_or, codes, Option, Some, None, refl, sym, ap, ◌∙◌, subst, arith, length-append, append_assoc, append-nil, encode_utf8_all}
-use Rattle.std.proofs.lemmas.Grind.{common_steps}
-use Rattle.std.proofs.lemmas.Bool.{and_parts, both_ways, cases_Bool, or_cases, eqb-true, ltb-true}
+use Rattle.std.proofs.Common.{◌≡◌, inl, inr, ℕ, ◌+◌, ◌<◌, Bool, true, false, cond, ◌&&◌, ◌==◌, [], ◌∷◌, ◌++◌, length, take, drop, get_or, Option, Some, None, refl, sym, ap, ◌∙◌, subst, arith, length-append, append_assoc, append-nil}
 use Rattle.em_base.specs.Names.{is_start}
 use Rattle.em_base.specs.declared.edition.Edition.{Edition}
-use Rattle.em_base.specs.declared.token.TokenKind.{TokenKind}
-use Rattle.em_base.specs.declared.token.TokenKind.TheVariants.{Char, Byte, Str, ByteStr}
 use Rattle.em_lex.specs.declared.error.LexKind.{LexKind}
 use Rattle.em_lex.specs.declared.error.LexKind.TheVariants.{BadCharacter, Unclosed, LiteralSuffix, BadEscape}
 use Rattle.em_lex.specs.declared.piece.Form.{Form}
 use Rattle.em_lex.specs.declared.piece.Form.TheVariants.{Quoted, Single, Raw}
-use Rattle.em_lex.specs.declared.piece.Piece.{Piece}
-use Rattle.em_lex.specs.declared.piece.Piece.TheVariants.{Trivia as Gap, Token as Took, Fault as Bad}
+use Rattle.em_lex.specs.declared.piece.Piece.TheVariants.{Token as Took, Fault as Bad}
 use Rattle.em_lex.specs.Characters.{Chars, starts}
-use Rattle.em_lex.specs.Literals.{hashes, lead, opening, closing, Denotes, IsUnit, plain, line, simple, code, unicode, skip, Units, none, more, NoUnit, OneCharacter, escape, broken, IsBody, Closed, IsLiteral}
-use Rattle.em_lex.specs.Spelling.{Spells, IsString}
-use Rattle.em_lex.specs.Faults.{Fault as Stands, unclosed, literal_suffix, body, bad_unit, ToldBefore}
+use Rattle.em_lex.specs.Literals.{opening, closing, Denotes, IsUnit, plain, line, simple, code, unicode, skip, Units, none, more, NoUnit, OneCharacter, escape, broken, IsBody, Closed, IsLiteral}
+use Rattle.em_lex.specs.Spelling.{Spells}
+use Rattle.em_lex.specs.Faults.{unclosed, literal_suffix, body, bad_unit}
 use Rattle.em_lex.specs.declared.piece.Unit.{Unit as Part}
 use Rattle.em_lex.specs.Scan.{step, unit_at, listed, first, starts_word, is_none, single_len, Reading, read, close_len, closing_len, body_fault, literal_kind, literal_read, literal_closed, literal_step}
-use Rattle.em_lex.proofs.Base.{impossible, by_test, pick, take_front, drop_front, index_front, same_front}
-use Rattle.em_lex.proofs.Values.{none_some, some_same}
+use Rattle.em_lex.proofs.Base.{impossible, pick, take_front, drop_front, index_front}
+use Rattle.em_lex.proofs.Values.{none_some}
 use Rattle.em_lex.proofs.Indices.{read-bad}
 use Rattle.em_lex.proofs.UnitLemmas.{unit_split, unit_none}
-use Rattle.em_lex.proofs.BodyLemmas.{BodyIs, whole, stops, body_is, read_whole, read_stops, CloseCut, close_cut, close_is, closing_is}
+use Rattle.em_lex.proofs.BodyLemmas.{BodyIs, whole, stops, body_is, read_whole, close_cut, close_is, closing_is}
 use Rattle.em_lex.proofs.Heads.{IsLetter, step_opening}
-use Rattle.em_lex.proofs.Pieces.{Front, Holds, Covered, Told}
+use Rattle.em_lex.proofs.Pieces.{Holds, Covered}
 
 pub starts_same : (cs : Chars) → starts_word cs ≡ starts is_start cs
 starts_same [] = refl

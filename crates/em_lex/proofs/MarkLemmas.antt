@@ -1,28 +1,24 @@
 -- At a delimiter, punctuation, or a character that begins nothing.
-use Rattle.std.proofs.Common.{◌≡◌, ◌≢◌, ◌⊎◌, inl, inr, ℕ, zero, suc, ◌+◌, ◌-◌, ◌<◌, ◌≤◌, Bool, true, false, not, cond, ◌&&◌, ◌||◌, ◌==◌, nat_lt, nat_le, List, [], ◌∷◌, ◌++◌, length, take, drop, get_or, codes, Option, Some, None, refl, sym, ap, ◌∙◌, subst, arith}
+use Rattle.std.proofs.Common.{◌≡◌, inl, inr, ℕ, ◌<◌, ◌≤◌, Bool, true, false, cond, ◌&&◌, ◌||◌, ◌==◌, List, [], ◌∷◌, ◌++◌, length, get_or, codes, Option, Some, None, refl, sym, ap, ◌∙◌, subst, arith}
 use Rattle.std.specs.Prelude.{nat_eq}
-use Rattle.std.proofs.lemmas.Grind.{common_steps}
-use Rattle.std.proofs.lemmas.Bool.{and_parts, both_ways, cases_Bool, or_cases, eqb-true, eqb-false, ltb-true}
+use Rattle.std.proofs.lemmas.Bool.{and_parts, both_ways, or_cases, eqb-true}
 use Rattle.std.proofs.lemmas.Bool.Decides.{nat_tests, Decides-eqb}
 use Rattle.std.specs.Char.{is_ascii_digit, is_ascii_alphabetic}
-use Rattle.std.specs.List.{list_all, list_any}
-use Rattle.std.specs.Str.{bytes_eq}
+use Rattle.std.specs.List.{list_any}
 use Rattle.em_base.specs.Names.{is_start}
 use Rattle.em_base.specs.declared.edition.Edition.{Edition}
 use Rattle.em_base.specs.declared.token.TokenKind.{TokenKind}
 use Rattle.em_base.specs.declared.token.TokenKind.TheVariants.{Open, Close, Punct}
 use Rattle.em_lex.specs.declared.error.LexKind.TheVariants.{BadCharacter}
-use Rattle.em_lex.specs.declared.piece.Piece.{Piece}
-use Rattle.em_lex.specs.declared.piece.Piece.TheVariants.{Trivia as Gap, Token as Took, Fault as Bad}
+use Rattle.em_lex.specs.declared.piece.Piece.TheVariants.{Token as Took, Fault as Bad}
 use Rattle.em_lex.specs.Characters.{Chars, starts, is_blank}
-use Rattle.em_lex.specs.Trivia.{begins_comment}
 use Rattle.em_lex.specs.Spelling.{is_among, opening_delimiters, closing_delimiters, punctuation}
-use Rattle.em_lex.specs.Faults.{Fault as Stands, unknown, is_mark, begins_nothing, ToldBefore}
-use Rattle.em_lex.specs.Scan.{first, is_punct1, is_punct2, is_punct3, takes_equals, is_pair, punct_len, is_open, is_close, mark_step, step, trivia_of, block_of, block_len}
-use Rattle.em_lex.proofs.Base.{impossible, by_test, pick, both, not_true, or_false, EachOf, any_of, no_start}
+use Rattle.em_lex.specs.Faults.{unknown, is_mark, begins_nothing}
+use Rattle.em_lex.specs.Scan.{first, is_punct1, is_punct2, is_punct3, takes_equals, is_pair, punct_len, is_open, is_close, mark_step, step, block_of, block_len}
+use Rattle.em_lex.proofs.Base.{impossible, by_test, pick, not_true, or_false, any_of, no_start}
 use Rattle.em_lex.proofs.Heads.{Mark, step_mark, step_line, step_block}
 use Rattle.em_lex.proofs.WordLemmas.{under_covers}
-use Rattle.em_lex.proofs.Pieces.{Front, Holds, Covered, Told}
+use Rattle.em_lex.proofs.Pieces.{Holds, Covered, Told}
 
 -- P holds of each character of a list
 abbrev pub EachChar : (ℕ → Type 0) → List ℕ → Type 0

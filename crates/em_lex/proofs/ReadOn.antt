@@ -1,5 +1,5 @@
 -- The reading of a body, a unit further.
-use Rattle.std.proofs.Common.{◌≡◌, ◌≢◌, ℕ, zero, suc, ◌+◌, ◌-◌, ◌*◌, ◌<◌, ◌≤◌, Bool, true, false, List, [], ◌∷◌, ◌++◌, length, take, drop, get_or, Option, Some, None, refl, sym, ap, ◌∙◌, subst, arith, append-nil, length-append, length-drop}
+use Rattle.std.proofs.Common.{◌≡◌, ℕ, suc, ◌+◌, ◌*◌, ◌<◌, ◌≤◌, Bool, true, [], ◌∷◌, ◌++◌, length, drop, Option, Some, None, refl, sym, ap, ◌∙◌, subst, arith, append-nil, length-append, length-drop}
 use Rattle.std.specs.Prelude.{All, IfSome, not, ◌||◌, nat_lt}
 use Rattle.std.proofs.lemmas.List.Elements.{All-cons}
 use Rattle.std.proofs.lemmas.Bool.Decides.{nat_tests}
@@ -7,8 +7,8 @@ use Rattle.std.specs.Char.{digit_value, is_ascii_hexdigit}
 use Rattle.em_lex.specs.declared.piece.Form.{Form}
 use Rattle.em_lex.specs.declared.piece.Unit.{Unit as Part}
 use Rattle.em_lex.specs.Characters.{Chars}
-use Rattle.em_lex.specs.Literals.{fits, Simple, newline, return, tab, backslash, null, quote, double, IsUnit, plain, line, simple, code, unicode, skip, Units, none, more}
-use Rattle.em_lex.specs.Scan.{after, unit_at, Reading, ahead, listed, read}
+use Rattle.em_lex.specs.Literals.{Simple, newline, return, tab, backslash, null, quote, double, IsUnit, plain, line, simple, code, unicode, skip, Units, none, more}
+use Rattle.em_lex.specs.Scan.{unit_at, Reading, ahead, listed, read}
 use Rattle.em_lex.proofs.Base.{impossible}
 use Rattle.em_lex.proofs.Indices.{ahead_ahead, read-bad, read-goes, read-end}
 use Rattle.em_lex.proofs.UnitLemmas.{unit_split}

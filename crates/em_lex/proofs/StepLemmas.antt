@@ -1,33 +1,31 @@
 -- What the step finds stands there, and what stands there is found.
-use Rattle.std.proofs.Common.{◌≡◌, ◌≢◌, ◌⊎◌, inl, inr, ℕ, zero, suc, ◌+◌, ◌-◌, ◌<◌, ◌≤◌, Bool, true, false, not, cond, ◌&&◌, ◌||◌, ◌==◌, nat_lt, nat_le, List, [], ◌∷◌, ◌++◌, length, take, drop, get_or, codes, Option, Some, None, refl, sym, ap, ◌∙◌, subst, arith, length-append, append_assoc, append-nil, encode_utf8_all}
-use Rattle.std.proofs.lemmas.Grind.{common_steps}
-use Rattle.std.proofs.lemmas.Bool.{and_parts, both_ways, cases_Bool, or_cases, eqb-true, eqb-false, ltb-true}
+use Rattle.std.proofs.Common.{◌≡◌, inl, inr, ℕ, ◌+◌, ◌<◌, Bool, true, false, not, cond, ◌&&◌, ◌||◌, ◌==◌, [], ◌∷◌, ◌++◌, length, get_or, codes, Option, Some, None, refl, sym, ap, ◌∙◌, subst, arith}
+use Rattle.std.proofs.lemmas.Bool.{and_parts, both_ways, or_cases, eqb-true}
 use Rattle.std.proofs.lemmas.Bool.Decides.{nat_tests}
 use Rattle.std.specs.Char.{is_ascii_digit}
 use Rattle.std.specs.List.{list_all, prefix_len}
 use Rattle.std.specs.Str.{bytes_eq}
 use Rattle.unicode_ident.specs.Ident.{is_xid_continue}
 use Rattle.unicode_ident.proofs.IdentLemmas.{is_xid_continue-ascii}
-use Rattle.em_base.specs.Names.{is_start, is_word, is_identifier}
+use Rattle.em_base.specs.Names.{is_start, is_word}
 use Rattle.em_base.specs.declared.edition.Edition.{Edition}
 use Rattle.em_base.specs.declared.token.TokenKind.{TokenKind}
 use Rattle.em_base.specs.declared.token.TokenKind.TheVariants.{Ident, Lifetime, Int, Char, Byte, Str, ByteStr, Open, Close, Punct}
 use Rattle.em_lex.specs.declared.error.LexKind.{LexKind}
-use Rattle.em_lex.specs.declared.error.LexKind.TheVariants.{BadCharacter, Unclosed, ReservedPrefix, LiteralSuffix, BadEscape, BadLifetime, BadRaw}
+use Rattle.em_lex.specs.declared.error.LexKind.TheVariants.{BadCharacter, Unclosed, ReservedPrefix, LiteralSuffix, BadLifetime, BadRaw}
 use Rattle.em_lex.specs.declared.piece.Form.{Form}
 use Rattle.em_lex.specs.declared.piece.Form.TheVariants.{Quoted, Single, Raw}
 use Rattle.em_lex.specs.declared.piece.Piece.{Piece}
-use Rattle.em_lex.specs.declared.piece.Piece.TheVariants.{Trivia as Gap, Token as Took, Fault as Bad}
+use Rattle.em_lex.specs.declared.piece.Piece.TheVariants.{Token as Took, Fault as Bad}
 use Rattle.em_lex.specs.Characters.{Chars, starts, is_blank, name_of}
-use Rattle.em_lex.specs.Literals.{hashes, lead, mark, opening, closing, Units, NoUnit, Closed, IsLiteral}
-use Rattle.em_lex.specs.Spelling.{Spells, is_never_raw}
-use Rattle.em_lex.specs.Faults.{Fault as Stands, unknown, comment, prefix, hash_r, hash_br, float, number, number_suffix, unclosed, literal_suffix, body, lifetime, reserves, is_reserved, BeginsRawString, BeginsRawWord, bad_unit, rank, ToldBefore}
-use Rattle.em_lex.specs.Scan.{first, run, starts_word, is_none, single_len, hash, close_len, closing_len, read, body_fault, literal_read, literal_step, lifetime_step, quote_step, is_2021, not_raw, prefixed, raw_word, hash_step, word_before, word_step, mark_step, step}
-use Rattle.em_lex.proofs.Base.{impossible, by_test, pick, both, not_true, or_false, Passed, passed, take_front, drop_front, index_front, no_continue, is_start-ascii}
-use Rattle.em_lex.proofs.Values.{none_some, some_same}
+use Rattle.em_lex.specs.Literals.{opening, Units, NoUnit, Closed}
+use Rattle.em_lex.specs.Spelling.{Spells}
+use Rattle.em_lex.specs.Faults.{Fault as Stands, unknown, comment, prefix, hash_r, hash_br, float, number, number_suffix, unclosed, literal_suffix, body, lifetime, reserves, is_reserved, BeginsRawString, BeginsRawWord, bad_unit}
+use Rattle.em_lex.specs.Scan.{first, starts_word, is_none, single_len, hash, close_len, closing_len, read, body_fault, literal_read, literal_step, lifetime_step, is_2021, not_raw, prefixed, raw_word, hash_step, word_before, step}
+use Rattle.em_lex.proofs.Base.{impossible, by_test, pick, both, not_true, or_false, Passed, passed, index_front, no_continue, is_start-ascii}
 use Rattle.em_lex.proofs.BodyLemmas.{close_cut, close_is, read_stops}
-use Rattle.em_lex.proofs.Heads.{IsLetter, step_word, step_digit, step_quoted, step_single, step_blank, step_line, step_block, step_mark, Mark, step_opening}
-use Rattle.em_lex.proofs.Pieces.{Front, Holds, Covered, Told}
+use Rattle.em_lex.proofs.Heads.{IsLetter, step_word, step_quoted, step_single, step_blank, step_line, step_block, step_mark, Mark, step_opening}
+use Rattle.em_lex.proofs.Pieces.{Holds, Covered, Told}
 use Rattle.em_lex.proofs.LiteralLemmas.{starts_same, fault_same, literal_is, literal_open, literal_holds, literal_covers}
 use Rattle.em_lex.proofs.WordLemmas.{word_ends, word_holds, word_covers, raw_covers, lifetime_covers, single_holds, hash_quote, raw_is, lifetime_is, quote_if, same_edition, free_name}
 use Rattle.em_lex.proofs.NumberLemmas.{number_holds, int_covers, float_told, value_told, suffix_told}

@@ -1,19 +1,18 @@
 -- The characters of a text, and its bytes.
-use Rattle.std.proofs.Common.{◌≡◌, ◌≢◌, ◌⊎◌, inl, inr, ℕ, zero, suc, ◌+◌, ◌-◌, ◌<◌, ◌≤◌, Bool, true, false, cond, ◌==◌, List, [], ◌∷◌, ◌++◌, length, take, drop, get_or, chars, refl, sym, ap, ◌∙◌, subst, arith, length-append, take-append-drop, encode_utf8_all}
+use Rattle.std.proofs.Common.{◌≡◌, ◌⊎◌, inl, inr, ℕ, true, false, ◌==◌, List, [], ◌∷◌, length, take, drop, chars, refl, sym, ap, ◌∙◌, arith, length-append, take-append-drop, encode_utf8_all}
 use Rattle.std.proofs.lemmas.Bool.{both_ways, eqb-true}
-use Rattle.std.proofs.lemmas.Str.{length-encode, encodes-append, encodes-chars, scalars-chars}
+use Rattle.std.proofs.lemmas.Str.{length-encode, encodes-chars, scalars-chars}
 use Rattle.std.specs.Char.{len_utf8, encode_utf8}
 use Rattle.std.specs.Str.{IsUtf8, all_scalars}
 use Rattle.em_base.specs.declared.edition.Edition.{Edition}
 use Rattle.em_base.specs.declared.token.Token.{Token}
-use Rattle.em_lex.specs.declared.error.LexKind.{LexKind}
 use Rattle.em_lex.specs.declared.error.LexError.{LexError}
 use Rattle.em_lex.specs.declared.error.LexError.TheVariants.{NoMemory, At, Limit}
 use Rattle.em_lex.specs.Characters.{Chars}
-use Rattle.em_lex.specs.Lexing.{byte_len, tokens_of, IsText, Lexes, Fails, FirstFault}
-use Rattle.em_lex.specs.Walk.{LexesFrom, FailsFrom, RefusedFrom, mark_len, RefusedText}
+use Rattle.em_lex.specs.Lexing.{byte_len, tokens_of, IsText, Lexes}
+use Rattle.em_lex.specs.Walk.{LexesFrom, RefusedFrom, mark_len, RefusedText}
 use Rattle.em_lex.proofs.Base.{by_test}
-use Rattle.em_lex.proofs.WalkLemmas.{byte_len-append, byte_len-cut}
+use Rattle.em_lex.proofs.WalkLemmas.{byte_len-append}
 
 pub encodes-byte_len : (cs : Chars) → length (encode_utf8_all cs) ≡ byte_len cs
 encodes-byte_len [] = refl

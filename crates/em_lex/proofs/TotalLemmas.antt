@@ -1,7 +1,6 @@
 -- Each text has tokens or a first fault.
-use Rattle.std.proofs.Common.{◌≡◌, ◌≢◌, ◌⊎◌, inl, inr, ℕ, zero, suc, ◌+◌, ◌-◌, ◌<◌, ◌≤◌, Bool, true, false, cond, ◌&&◌, ◌||◌, ◌==◌, List, [], ◌∷◌, ◌++◌, length, take, drop, refl, sym, ap, ◌∙◌, subst, arith, length-append, append-nil, encode_utf8_all}
-use Rattle.std.proofs.lemmas.Bool.{both_ways, cases_Bool, eqb-true, cases_lt}
-use Rattle.std.proofs.lemmas.Bool.Decides.{nat_tests}
+use Rattle.std.proofs.Common.{◌≡◌, ◌⊎◌, inl, inr, ℕ, zero, suc, ◌+◌, ◌<◌, ◌≤◌, Bool, true, false, ◌==◌, List, [], ◌∷◌, ◌++◌, length, take, refl, sym, ap, ◌∙◌, subst, arith, length-append, encode_utf8_all}
+use Rattle.std.proofs.lemmas.Bool.{both_ways, eqb-true, cases_lt}
 use Rattle.std.proofs.lemmas.Str.{IsUtf8-from_is_utf8, is_utf8-from_IsUtf8, IsUtf8-nil}
 use Rattle.std.specs.Str.{IsUtf8, IsValidUpTo, all_scalars, is_utf8}
 use Rattle.em_base.specs.declared.edition.Edition.{Edition}
@@ -11,10 +10,10 @@ use Rattle.em_lex.specs.declared.error.LexKind.TheVariants.{NotUtf8}
 use Rattle.em_lex.specs.declared.piece.Piece.{Piece}
 use Rattle.em_lex.specs.Characters.{Chars}
 use Rattle.em_lex.specs.Faults.{First}
-use Rattle.em_lex.specs.Lexing.{Part, trivia, token, spelled, is_dot, PartAt, Tiles, byte_len, tokens_of, IsText, Lexes, Fails, FirstFault}
+use Rattle.em_lex.specs.Lexing.{Part, spelled, is_dot, PartAt, Tiles, byte_len, tokens_of, IsText, Lexes, FirstFault}
 use Rattle.em_lex.specs.Scan.{step}
 use Rattle.em_lex.specs.Laws.{ListOrFault}
-use Rattle.em_lex.proofs.Base.{by_test, impossible}
+use Rattle.em_lex.proofs.Base.{by_test}
 use Rattle.em_lex.proofs.LexingLemmas.{Found, part, fault, found, part_some}
 use Rattle.em_lex.proofs.WalkLemmas.{byte_len-append}
 

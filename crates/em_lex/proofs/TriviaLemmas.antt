@@ -1,21 +1,19 @@
 -- Whitespace and comments.
-use Rattle.std.proofs.Common.{◌≡◌, ◌≢◌, ◌⊎◌, inl, inr, ℕ, zero, suc, ◌+◌, ◌-◌, ◌<◌, ◌≤◌, Bool, true, false, not, cond, ◌&&◌, ◌||◌, ◌==◌, nat_lt, nat_le, List, [], ◌∷◌, ◌++◌, length, take, drop, get_or, codes, Option, Some, None, refl, sym, ap, ◌∙◌, subst, arith, length-append, append_assoc, append-nil}
-use Rattle.std.proofs.lemmas.Grind.{common_steps}
-use Rattle.std.proofs.lemmas.Bool.{and_parts, both_ways, cases_Bool, or_cases, eqb-true, ltb-true}
+use Rattle.std.proofs.Common.{◌≡◌, inr, ℕ, zero, suc, ◌+◌, ◌-◌, ◌<◌, Bool, true, false, cond, ◌&&◌, ◌==◌, [], ◌∷◌, ◌++◌, length, take, Option, Some, None, refl, sym, ap, ◌∙◌, subst, arith, length-append}
+use Rattle.std.proofs.lemmas.Bool.{and_parts, eqb-true}
 use Rattle.std.proofs.lemmas.Bool.Decides.{nat_tests}
-use Rattle.std.specs.List.{list_all, prefix_len}
+use Rattle.std.specs.List.{prefix_len}
 use Rattle.em_base.specs.declared.edition.Edition.{Edition}
 use Rattle.em_lex.specs.declared.error.LexKind.TheVariants.{Unclosed}
-use Rattle.em_lex.specs.declared.piece.Piece.{Piece}
-use Rattle.em_lex.specs.declared.piece.Piece.TheVariants.{Trivia as Gap, Token as Took, Fault as Bad}
+use Rattle.em_lex.specs.declared.piece.Piece.TheVariants.{Trivia as Gap}
 use Rattle.em_lex.specs.Characters.{Chars, starts, is_blank, not_line_feed}
-use Rattle.em_lex.specs.Trivia.{is_comment_mark, Within, closes, lowers, raises, passes, is_doc, begins_comment, IsTrivia, blank, line, block}
-use Rattle.em_lex.specs.Faults.{Fault as Stands, comment, ToldBefore}
+use Rattle.em_lex.specs.Trivia.{is_comment_mark, Within, closes, lowers, raises, passes, is_doc, IsTrivia, blank, line, block}
+use Rattle.em_lex.specs.Faults.{comment}
 use Rattle.em_lex.specs.Scan.{first, after, block_len, doc_comment, trivia_of, block_of, step}
-use Rattle.em_lex.proofs.Base.{impossible, by_test, pick, both, or_false, Passed, passed, prefix_all, take_front, drop_front}
+use Rattle.em_lex.proofs.Base.{pick, or_false, Passed, passed, prefix_all, take_front}
 use Rattle.em_lex.proofs.Values.{none_some, some_same}
 use Rattle.em_lex.proofs.Heads.{step_blank, step_line, step_block}
-use Rattle.em_lex.proofs.Pieces.{Front, Holds, Told}
+use Rattle.em_lex.proofs.Pieces.{Holds, Told}
 
 starts_one : (x : ℕ) (cs : Chars) → (0 == x) ≡ false → starts (λ d. d == x) cs ≡ (first cs == x)
 starts_one x [] h = sym h

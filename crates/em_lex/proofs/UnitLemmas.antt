@@ -1,21 +1,17 @@
 -- The unit that the code finds is the one that stands there.
-use Rattle.std.proofs.Common.{◌≡◌, ◌≢◌, ◌⊎◌, inl, inr, ℕ, zero, suc, ◌+◌, ◌-◌, ◌*◌, ◌^◌, ◌<◌, ◌≤◌, Bool, true, false, not, cond, ◌&&◌, ◌||◌, ◌==◌, nat_lt, nat_le, List, [], ◌∷◌, ◌++◌, length, filter, take, drop, get_or, Option, Some, None, refl, sym, ap, ◌∙◌, subst, arith, length-append, append_assoc}
-use Rattle.std.proofs.lemmas.Grind.{common_steps}
+use Rattle.std.proofs.Common.{◌≡◌, ◌≢◌, inl, inr, ℕ, ◌+◌, ◌*◌, ◌^◌, ◌<◌, ◌≤◌, Bool, true, false, not, cond, ◌&&◌, ◌||◌, ◌==◌, nat_lt, nat_le, [], ◌∷◌, ◌++◌, length, filter, take, drop, get_or, Option, Some, None, refl, sym, ap, ◌∙◌, subst, arith, length-append, append_assoc}
 use Rattle.std.proofs.lemmas.List.Recursion.{is_count_by}
-use Rattle.std.proofs.lemmas.Bool.{and_parts, both_ways, cases_Bool, or_cases, eqb-true, ltb-true}
+use Rattle.std.proofs.lemmas.Bool.{and_parts, both_ways, or_cases, eqb-true}
 use Rattle.std.proofs.lemmas.Bool.Decides.{nat_tests}
 use Rattle.std.specs.Char.{is_digit, digit_value, is_ascii_hexdigit, IsScalar}
 use Rattle.std.specs.List.{list_all, prefix_len, count_by}
-use Rattle.std.specs.Str.Parse.{digits_value}
 use Rattle.em_lex.specs.declared.piece.Form.{Form}
 use Rattle.em_lex.specs.declared.piece.Form.TheVariants.{Quoted, Single, Raw}
 use Rattle.em_lex.specs.declared.piece.Unit.{Unit as Part}
 use Rattle.em_lex.specs.Characters.{Chars, starts, not_underscore}
 use Rattle.em_lex.specs.Literals.{is_raw, is_plain, fits, has_lines, Simple, newline, return, tab, backslash, null, quote, double, IsByteCode, is_code_part, digits_of, IsCode, is_skipped, IsLineEnd, IsUnit, plain, line, simple, code, unicode, skip, NoUnit}
-use Rattle.em_lex.specs.Numbers.{HasValue}
-use Rattle.em_lex.specs.Scan as scan
 use Rattle.em_lex.specs.Scan.{first, raw_form, quoted_form, single_form, stands, unit_of, simple_at, code_part, scalar_unit, unicode_at, code_at, skipped, is_line_end, other_escape, simple_or, escape_at, unit_at, listed, value_from}
-use Rattle.em_lex.proofs.Base.{impossible, by_test, pick, both, not_true, or_false, and_false, Passed, passed, prefix_all, take_front, index_front}
+use Rattle.em_lex.proofs.Base.{impossible, by_test, pick, not_true, passed, prefix_all, take_front, index_front}
 use Rattle.em_lex.proofs.Values.{has_value, value_has, none_some, some_same}
 
 -- the unit u with this value stands in front of cs

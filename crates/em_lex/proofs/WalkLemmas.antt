@@ -1,6 +1,5 @@
 -- The walk through a text, piece by piece.
-use Rattle.std.proofs.Common.{◌≡◌, ◌≢◌, ◌⊎◌, inl, inr, ℕ, zero, suc, ◌+◌, ◌-◌, ◌*◌, ◌<◌, ◌≤◌, Bool, true, false, not, cond, ◌&&◌, ◌||◌, ◌==◌, List, [], ◌∷◌, ◌++◌, length, take, drop, refl, sym, ap, ◌∙◌, subst, arith, length-append, append_assoc, append-nil, take-append-drop, length-drop, sum_by, encode_utf8_all}
-use Rattle.std.proofs.lemmas.Grind.{common_steps}
+use Rattle.std.proofs.Common.{◌≡◌, ℕ, ◌+◌, ◌<◌, ◌≤◌, Bool, false, ◌||◌, List, [], ◌∷◌, ◌++◌, length, take, drop, refl, sym, ap, ◌∙◌, subst, arith, length-append, append_assoc, append-nil, take-append-drop, length-drop}
 use Rattle.std.proofs.lemmas.List.{drop-drop}
 use Rattle.std.proofs.lemmas.List.Sums.{sum_by-append}
 use Rattle.std.proofs.lemmas.Str.{len_utf8_bounds}
@@ -8,21 +7,19 @@ use Rattle.std.specs.Char.{len_utf8}
 use Rattle.std.specs.Str.{bytes_eq}
 use Rattle.em_base.specs.declared.edition.Edition.{Edition}
 use Rattle.em_base.specs.declared.token.Token.{Token}
-use Rattle.em_base.specs.declared.token.TokenKind.{TokenKind}
 use Rattle.em_lex.specs.declared.error.LexKind.{LexKind}
 use Rattle.em_lex.specs.declared.error.LexError.{LexError}
 use Rattle.em_lex.specs.declared.error.LexError.TheVariants.{NoMemory, At, Limit}
 use Rattle.em_lex.specs.declared.piece.Piece.{Piece}
-use Rattle.em_lex.specs.declared.piece.Piece.TheVariants.{Trivia as Gap, Token as Took, Fault as Bad}
 use Rattle.em_lex.specs.declared.lexer.Place.{Place}
 use Rattle.em_lex.specs.Characters.{Chars}
 use Rattle.em_lex.specs.Literals.{opening, closing}
 use Rattle.em_lex.specs.Faults.{Fault as Stands, unknown, comment, prefix, hash_r, hash_br, float, number, number_suffix, unclosed, literal_suffix, body, lifetime, First}
 use Rattle.em_lex.specs.Lexing.{Part, trivia, token, spelled, is_dot, PartAt, Tiles, byte_len, tokens_of}
 use Rattle.em_lex.specs.Scan.{step}
-use Rattle.em_lex.specs.Walk.{token_at, behind_trivia, behind_token, piece_within, Kept, FaultAt, RefusedAt, LexesFrom, FailsFrom, RefusedFrom}
+use Rattle.em_lex.specs.Walk.{token_at, behind_trivia, behind_token, piece_within, Kept, FaultAt, RefusedAt, LexesFrom, RefusedFrom}
 use Rattle.em_lex.proofs.Base.{take_front, drop_front}
-use Rattle.em_lex.proofs.LexingLemmas.{piece_of, Found, part, fault, found, part_some}
+use Rattle.em_lex.proofs.LexingLemmas.{Found, part, fault, found, part_some}
 
 pub byte_len-cut : (n : ℕ) (cs : Chars) → byte_len (take n cs) + byte_len (drop n cs) ≡ byte_len cs
 byte_len-cut n cs = sym (sum_by-append len_utf8 (take n cs) (drop n cs)) ∙ ap byte_len (take-append-drop n cs)

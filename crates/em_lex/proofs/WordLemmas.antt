@@ -1,9 +1,8 @@
 -- At a word, and at a `'`.
-use Rattle.std.proofs.Common.{◌≡◌, ◌≢◌, ◌⊎◌, inl, inr, ℕ, zero, suc, ◌+◌, ◌-◌, ◌<◌, ◌≤◌, Bool, true, false, not, cond, ◌&&◌, ◌||◌, ◌==◌, nat_lt, nat_le, List, [], ◌∷◌, ◌++◌, length, take, drop, get_or, codes, Option, Some, None, refl, sym, ap, ◌∙◌, subst, arith, length-append, append_assoc, append-nil}
-use Rattle.std.proofs.lemmas.Grind.{common_steps}
-use Rattle.std.proofs.lemmas.Bool.{and_parts, both_ways, cases_Bool, or_cases, eqb-true, ltb-true}
+use Rattle.std.proofs.Common.{◌≡◌, ℕ, suc, ◌+◌, ◌<◌, ◌≤◌, Bool, true, false, not, cond, ◌&&◌, ◌||◌, ◌==◌, List, [], ◌∷◌, ◌++◌, length, take, drop, get_or, codes, Option, Some, None, refl, sym, ap, ◌∙◌, subst, arith, length-append, append_assoc}
+use Rattle.std.proofs.lemmas.Bool.{and_parts, both_ways, eqb-true}
 use Rattle.std.proofs.lemmas.Bool.Decides.{nat_tests}
-use Rattle.std.specs.List.{list_all, list_any, prefix_len}
+use Rattle.std.specs.List.{list_all, prefix_len}
 use Rattle.std.specs.Str.{bytes_eq}
 use Rattle.unicode_ident.specs.Ident.{is_xid_continue}
 use Rattle.em_base.specs.Names.{is_start, is_word, is_identifier}
@@ -11,22 +10,21 @@ use Rattle.em_base.specs.declared.edition.Edition.{Edition}
 use Rattle.em_base.specs.declared.edition.Edition.TheVariants.{E2015, E2018, E2021}
 use Rattle.em_base.specs.declared.token.TokenKind.{TokenKind}
 use Rattle.em_base.specs.declared.token.TokenKind.TheVariants.{Ident, Lifetime, Punct}
-use Rattle.em_lex.specs.declared.error.LexKind.{LexKind}
-use Rattle.em_lex.specs.declared.error.LexKind.TheVariants.{ReservedPrefix, BadLifetime, BadRaw, Unclosed, LiteralSuffix}
+use Rattle.em_lex.specs.declared.error.LexKind.TheVariants.{BadLifetime, BadRaw}
 use Rattle.em_lex.specs.declared.piece.Form.{Form}
 use Rattle.em_lex.specs.declared.piece.Form.TheVariants.{Quoted, Single, Raw}
 use Rattle.em_lex.specs.declared.piece.Piece.{Piece}
 use Rattle.em_lex.specs.declared.piece.Piece.TheVariants.{Trivia as Gap, Token as Took, Fault as Bad}
 use Rattle.em_lex.specs.Characters.{Chars, starts, name_of}
-use Rattle.em_lex.specs.Literals.{hashes, opening, closing, Closed, OneCharacter, plain, escape, broken}
-use Rattle.em_lex.specs.Spelling.{Spells, is_among, punctuation, is_never_raw, never_raw, IsRawWord}
-use Rattle.em_lex.specs.Faults.{Fault as Stands, prefix, hash_r, hash_br, lifetime, reserves, is_reserved, BeginsRawString, BeginsRawWord, ToldBefore}
+use Rattle.em_lex.specs.Literals.{hashes, opening, Closed, OneCharacter, plain, escape, broken}
+use Rattle.em_lex.specs.Spelling.{is_among, punctuation, is_never_raw, IsRawWord}
+use Rattle.em_lex.specs.Faults.{prefix, hash_r, hash_br, lifetime, reserves, is_reserved, BeginsRawString, BeginsRawWord}
 use Rattle.em_lex.specs.Scan.{first, run, starts_word, is_none, single_len, hash, close_len, closing_len, Reading, literal_read, literal_closed, literal_step, read, lifetime_step, quote_step, is_2021, not_raw, plain_word, prefixed, raw_word, hash_step, word_before_quote, word_before_hash, word_before, word_step, step}
-use Rattle.em_lex.proofs.Base.{impossible, by_test, pick, both, not_true, or_false, same_text, text_same, Passed, passed, prefix_all, prefix_most, take_front, drop_front, index_front, same_front, no_start, no_continue, is_start-ascii}
-use Rattle.em_lex.proofs.Values.{none_some, some_same}
-use Rattle.em_lex.proofs.BodyLemmas.{hashes_len, all_hashes, CloseCut, close_cut, close_is}
-use Rattle.em_lex.proofs.Heads.{IsLetter, step_word, step_single}
-use Rattle.em_lex.proofs.Pieces.{Front, Holds, Covered, Told}
+use Rattle.em_lex.proofs.Base.{impossible, by_test, pick, both, not_true, or_false, same_text, Passed, passed, prefix_all, prefix_most, take_front, drop_front, index_front, same_front, no_start, no_continue, is_start-ascii}
+use Rattle.em_lex.proofs.Values.{none_some}
+use Rattle.em_lex.proofs.BodyLemmas.{hashes_len, all_hashes, close_cut, close_is}
+use Rattle.em_lex.proofs.Heads.{step_word, step_single}
+use Rattle.em_lex.proofs.Pieces.{Holds, Covered}
 use Rattle.em_lex.proofs.LiteralLemmas.{literal_holds, literal_is}
 
 index_past : (w rest : Chars) → get_or (w ++ rest) (length w) 0 ≡ get_or rest 0 0

@@ -1,7 +1,6 @@
 -- When a text is refused.
 use Rattle.std.specs.Prelude.{◌≡◌, ◌<◌, ◌≤◌, ℕ, List, length}
 use Rattle.em_base.specs.declared.edition.Edition.{Edition}
-use Rattle.em_base.specs.declared.limit.Limit.{Limit as LimitKind}
 use Rattle.em_base.specs.declared.limit.Limit.TheVariants.{FileBytes}
 use Rattle.em_lex.specs.Lexing.{FirstFault}
 use Rattle.em_lex.specs.declared.error.LexError.{LexError}

@@ -1,5 +1,5 @@
 -- The characters of a text, as code points, and their classes.
-use Rattle.std.specs.Prelude.{ℕ, Bool, false, not, ◌&&◌, ◌||◌, ◌==◌, nat_le, nat_eq, List, [], ◌∷◌, codes, encode_utf8_all}
+use Rattle.std.specs.Prelude.{ℕ, Bool, false, not, ◌&&◌, ◌||◌, ◌==◌, nat_le, nat_eq, List, [], ◌∷◌, encode_utf8_all}
 use Rattle.std.specs.List.{starts_with}
 use Rattle.unicode_normalization.specs.Forms.{nfc}
 

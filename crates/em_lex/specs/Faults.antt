@@ -1,5 +1,5 @@
 -- What is wrong with a text at a place.
-use Rattle.std.specs.Prelude.{◌≡◌, ◌<◌, ◌≤◌, ◌⊎◌, ℕ, ◌+◌, Bool, true, false, not, ◌&&◌, ◌||◌, ◌==◌, if◌then◌else◌, List, [], ◌∷◌, ◌++◌, length, codes}
+use Rattle.std.specs.Prelude.{◌≡◌, ◌<◌, ◌≤◌, ◌⊎◌, ℕ, ◌+◌, Bool, true, false, not, ◌&&◌, ◌||◌, ◌==◌, if◌then◌else◌, [], ◌∷◌, ◌++◌, length, codes}
 use Rattle.std.specs.Char.{is_ascii_digit}
 use Rattle.std.specs.List.{list_all, list_any}
 use Rattle.std.specs.Str.{bytes_eq}
@@ -9,12 +9,12 @@ use Rattle.em_base.specs.declared.edition.Edition.{Edition}
 use Rattle.em_base.specs.declared.edition.Edition.TheVariants.{E2015, E2018, E2021}
 use Rattle.em_lex.specs.declared.error.LexKind.{LexKind}
 use Rattle.em_lex.specs.declared.error.LexKind.TheVariants.{NotUtf8, BadCharacter, Unclosed, ReservedPrefix, Float, BadNumber, LiteralSuffix, BadEscape, BadLifetime, BadRaw}
-use Rattle.em_lex.specs.Characters.{Chars, is_blank, starts, begins, name_of}
+use Rattle.em_lex.specs.Characters.{Chars, is_blank, starts, name_of}
 use Rattle.em_lex.specs.Trivia.{Within}
 use Rattle.em_lex.specs.declared.piece.Form.{Form}
 use Rattle.em_lex.specs.declared.piece.Form.TheVariants.{Quoted, Single, Raw}
 use Rattle.em_lex.specs.Literals.{hashes, opening, Closed, Units, NoUnit}
-use Rattle.em_lex.specs.Numbers.{base_of, is_part, Cut, HasValue, IsSuffix}
+use Rattle.em_lex.specs.Numbers.{base_of, Cut, HasValue, IsSuffix}
 use Rattle.em_lex.specs.Spelling.{opening_delimiters, closing_delimiters, punctuation, is_never_raw}
 
 -- some token of punctuation or delimiters begins with the character

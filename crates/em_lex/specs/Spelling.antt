@@ -6,7 +6,6 @@ use Rattle.em_base.specs.Names.{is_word, is_identifier}
 use Rattle.em_base.specs.declared.token.TokenKind.{TokenKind}
 use Rattle.em_base.specs.declared.token.TokenKind.TheVariants.{Ident, Lifetime, Int, Char, Byte, Str, ByteStr, Open, Close, Punct}
 use Rattle.em_lex.specs.Characters.{Chars, name_of}
-use Rattle.em_lex.specs.declared.piece.Form.{Form}
 use Rattle.em_lex.specs.declared.piece.Form.TheVariants.{Quoted, Single, Raw}
 use Rattle.em_lex.specs.Literals.{IsLiteral}
 use Rattle.em_lex.specs.Numbers.{IsInt}

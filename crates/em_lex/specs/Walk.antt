@@ -1,5 +1,5 @@
 -- How the code walks through a text. No definition of what a token or a fault is rests on this.
-use Rattle.std.specs.Prelude.{◌≡◌, ◌<◌, ◌≤◌, ◌⊎◌, ℕ, ◌+◌, Bool, true, false, ◌||◌, ◌==◌, slice_index, if◌then◌else◌, List, [], ◌∷◌, ◌++◌, length, take, encode_utf8_all}
+use Rattle.std.specs.Prelude.{◌≡◌, ◌≤◌, ℕ, ◌+◌, Bool, false, ◌||◌, ◌==◌, slice_index, if◌then◌else◌, List, [], ◌∷◌, ◌++◌, length, take, encode_utf8_all}
 use Rattle.std.specs.Str.{bytes_eq}
 use Rattle.em_base.specs.declared.edition.Edition.{Edition}
 use Rattle.em_base.specs.declared.token.Token.{Token}

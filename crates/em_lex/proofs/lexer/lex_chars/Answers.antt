@@ -1,5 +1,4 @@
-use Rattle.std.proofs.Common.{◌≡◌, ◌+◌, ◌<◌, ◌≤◌, length, drop, sym, ap, ◌∙◌, arith, rules}
-use Rattle.em_lex.specs.Lexing.{byte_len}
+use Rattle.std.proofs.Common.{arith, rules}
 use Rattle.em_lex.specs.Walk.{RefusedFrom}
 use Rattle.em_lex.proofs.WalkLemmas.{length-byte_len, walk_within, walk_more, walk_fails, walk_fits, walk_done}
 use Rattle.em_lex.proofs.lexer.lex_chars.Goals as goal

@@ -1,10 +1,6 @@
-use Rattle.std.proofs.Common.{◌≡◌, ◌+◌, ◌<◌, ℕ, List, length, take, drop, chars, sym, ap, ◌∙◌, subst, arith, rules}
-use Rattle.em_base.specs.declared.edition.Edition.{Edition}
-use Rattle.em_base.specs.declared.token.Token.{Token}
-use Rattle.em_lex.specs.declared.error.LexError.{LexError}
-use Rattle.std.specs.Str.{IsUtf8}
+use Rattle.std.proofs.Common.{◌≡◌, ℕ, take, drop, ap, ◌∙◌, subst, arith, rules}
 use Rattle.em_lex.specs.Characters.{Chars}
-use Rattle.em_lex.specs.Lexing.{byte_len, Lexes}
+use Rattle.em_lex.specs.Lexing.{byte_len}
 use Rattle.em_lex.specs.Walk.{mark_len, LexesFrom, RefusedFrom, RefusedText}
 use Rattle.em_lex.proofs.WalkLemmas.{byte_len-cut}
 use Rattle.em_lex.proofs.TextLemmas.{lexes_text, refused_text, text_scalars, text_encoded, text_bytes}

@@ -1,4 +1,4 @@
-use Rattle.std.proofs.Common.{◌≡◌, sym, ap, ◌∙◌, subst, ℕ, List, ◌<◌}
+use Rattle.std.proofs.Common.{sym, ◌∙◌, subst, ℕ, List, ◌<◌}
 use Rattle.std.specs.Prelude.{All}
 use Rattle.em_lex.proofs.ReadOn.{read_small}
 use Rattle.em_lex.proofs.literal.literal_step.Goals as goal

@@ -1,4 +1,4 @@
-use Rattle.std.proofs.Common.{◌≡◌, ◌+◌, ◌-◌, ◌≤◌, length, drop, false}
+use Rattle.std.proofs.Common.{◌≡◌, drop, false}
 use Rattle.em_lex.specs.Scan.{string_len, after}
 use Rattle.em_lex.proofs.literal.string_len.Given as goal
 

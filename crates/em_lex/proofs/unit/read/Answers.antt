@@ -1,4 +1,4 @@
-use Rattle.std.proofs.Common.{◌≡◌, ◌<◌, ◌≤◌, ℕ, Bool, Option, Some, None, length, drop, refl, sym, ap, ◌∙◌, arith}
+use Rattle.std.proofs.Common.{◌≡◌, ℕ, Bool, Option, Some, None, drop, refl, sym, ap, ◌∙◌, arith}
 use Rattle.em_lex.specs.Characters.{Chars}
 use Rattle.em_lex.specs.declared.piece.Form.{Form}
 use Rattle.em_lex.specs.declared.piece.Unit.{Unit as Part}
