@@ -138,15 +138,3 @@ pub fn reference_iterator_type(alloc: Global, ty: &Ty) -> Result<Option<Ty>, NoM
         _ => Ok(None),
     }
 }
-
-/// The items of an iterator that `for` goes through.
-pub fn item_type(alloc: Global, ty: &Ty) -> Result<Option<Ty>, NoMemory>
-    ensures { IfOk result (λ t. t ≡ fitting.item_type (out-Ty ty.now)) }
-{
-    match ty {
-        Ty::ArrayIter(item) => Ok(Some(copy_type(alloc, item.get())?)),
-        Ty::RefIter(item) => Ok(Some(copy_type(alloc, item.get())?)),
-        Ty::Range(kind) => Ok(Some(Ty::Int(*kind))),
-        _ => Ok(None),
-    }
-}
