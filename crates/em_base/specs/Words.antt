@@ -24,7 +24,8 @@ is_ascending (x ∷ y ∷ ys) = is_lt (slice_cmp nat_cmp x y) && is_ascending (y
 abbrev pub is_among : List (List ℕ) → List ℕ → Bool
 is_among list text = list_any (λ x. bytes_eq x text) list
 
--- Reference, "Strict keywords": those of every edition, without `_`, which is punctuation
+-- Reference, "Strict keywords": those of every edition. `_` is left out: here it is punctuation, as its tokens are in
+-- macros
 abbrev pub strict : List (List ℕ)
 strict =
     codes "as" ∷ codes "break" ∷ codes "const" ∷ codes "continue" ∷ codes "crate" ∷ codes "else" ∷ codes "enum"
@@ -62,7 +63,7 @@ class_of edition word =
 abbrev pub prefixes : List (List ℕ)
 prefixes = codes "b" ∷ codes "r" ∷ codes "br" ∷ []
 
--- the suffixes of an integer literal (Reference, "Integer literals")
+-- the suffixes of an integer literal (Reference, "Integer literals") but `i128` and `u128`: integers have up to 64 bits
 abbrev pub integer_suffixes : List (List ℕ)
 integer_suffixes =
     codes "i8" ∷ codes "i16" ∷ codes "i32" ∷ codes "i64" ∷ codes "isize" ∷ codes "u8" ∷ codes "u16" ∷ codes "u32"

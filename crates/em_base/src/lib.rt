@@ -3,6 +3,7 @@
 
 mod edit;
 mod edition;
+mod int_kind;
 mod limit;
 mod list;
 mod memory;
@@ -15,13 +16,14 @@ mod words;
 
 pub use edit::{Lint, Part, Suggestion};
 pub use edition::Edition;
+pub use int_kind::IntKind;
 pub use limit::Limit;
 pub use list::List;
 pub use memory::NoMemory;
 pub use name::{Name, is_name};
 pub use place::{Mark, Place, Span};
 pub use slices::{between, rest_from};
-pub use text::{Bytes, Text};
+pub use text::{ByteText, Bytes, Text};
 pub use token::{Token, TokenKind, Tokens};
 pub use words::{Class, Word, find, is_integer_suffix, is_known_prefix, keyword_in};
 

@@ -8,6 +8,7 @@ ghost use Rattle.em_base.specs.Names.{is_start, is_word, is_identifier};
 use crate::memory::NoMemory;
 use std::alloc::Global;
 use std::marker::Model;
+use std::rc::RcStr;
 use unicode_ident::{is_xid_continue, is_xid_start};
 use unicode_normalization::to_nfc;
 
@@ -15,15 +16,16 @@ use unicode_normalization::to_nfc;
 /// Normalization Form C. Contracts see the bytes of the text.
 #[derive(Debug, Drop)]
 pub struct Name {
-    text: String,
+    text: RcStr,
 }
 
 impl Model for Name {
-    ghost use Rattle.std.specs.Prelude.{List, ℕ, string_bytes};
+    ghost use Rattle.std.specs.Prelude.{List, ℕ};
+    ghost use Rattle.std.specs.Rc.{rc_str_bytes};
 
     ghost Value = { List ℕ };
 
-    ghost view = { λ n. string_bytes n.text };
+    ghost view = { λ n. rc_str_bytes n.text };
 }
 
 impl Name {
@@ -33,8 +35,18 @@ impl Name {
         requires { IsAscii bytes.now }
         ensures { IfOk result (λ n. n ≡ bytes.now) }
     {
+        let text = String::from_utf8_lossy(alloc, bytes)?;
         Ok(Name {
-            text: String::from_utf8_lossy(alloc, bytes)?,
+            text: RcStr::from_string(text)?,
+        })
+    }
+
+    /// The same name, whose text isn't copied.
+    pub fn share(&self) -> Result<Name, NoMemory>
+        ensures { IfOk result (λ n. n ≡ self.now) }
+    {
+        Ok(Name {
+            text: self.text.clone()?,
         })
     }
 
@@ -61,7 +73,7 @@ pub fn is_name(alloc: Global, text: &str) -> Result<Option<Name>, NoMemory>
     if !is_identifier(&characters) {
         return Ok(None);
     }
-    let text = to_nfc(alloc, text)?;
+    let text = RcStr::from_string(to_nfc(alloc, text)?)?;
     Ok(Some(Name { text }))
 }
 

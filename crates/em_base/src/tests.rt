@@ -1,6 +1,6 @@
 use crate::{
-    Bytes, Class, Edition, List, Name, Text, Word, between, find, is_integer_suffix,
-    is_known_prefix, is_name, keyword_in, rest_from,
+    ByteText, Bytes, Class, Edition, IntKind, List, Mark, Name, Span, Text, Token, TokenKind, Word,
+    between, find, is_integer_suffix, is_known_prefix, is_name, keyword_in, rest_from,
 };
 use std::process::Abort;
 use std::test::Fail;
@@ -11,11 +11,47 @@ fn texts_and_names(rt: HostRuntime) -> Result<(), Fail> {
     let text = Text::from_str(alloc, "é")?;
     assert_eq!(rt; text.as_bytes(), [0xC3u8, 0xA9].as_slice());
     assert_eq!(rt; Text::from_ascii(alloc, b"a_1")?.as_str(), "a_1");
-    assert_eq!(rt;
-        Text::from_string(String::from_str(alloc, "b")?).as_str(),
-        "b"
+    let text = Text::from_string(String::from_str(alloc, "b")?)?;
+    assert_eq!(rt; text.share()?.as_str(), "b");
+    let name = Name::from_ascii(alloc, b"async")?;
+    assert_eq!(rt; name.share()?.as_str(), "async");
+    let mut bytes = Vec::new(alloc);
+    bytes.push(0xFFu8)?;
+    let bytes = ByteText::from_vec(bytes)?;
+    assert_eq!(rt; bytes.share()?.as_slice(), [0xFFu8].as_slice());
+    Ok(())
+}
+
+#[test]
+fn shared_tokens(rt: HostRuntime) -> Result<(), Fail> {
+    let alloc = rt.alloc();
+    let token = Token {
+        kind: TokenKind::Int {
+            value: 7,
+            suffix: Some(IntKind::U8),
+        },
+        text: Text::from_str(alloc, "7u8")?,
+        span: Span {
+            file: 1,
+            start: 2,
+            end: 5,
+        },
+        edition: Edition::E2018,
+        marks: List::from_slice(alloc, &[Mark(3), Mark(4)])?,
+        doc: true,
+    };
+    let shared = token.share(alloc)?;
+    assert!(rt;
+        match &shared.kind {
+            TokenKind::Int { value, suffix } => *value == 7 && *suffix == Some(IntKind::U8),
+            _ => false,
+        }
     );
-    assert_eq!(rt; Name::from_ascii(alloc, b"async")?.as_str(), "async");
+    assert_eq!(rt; shared.text.as_str(), "7u8");
+    assert_eq!(rt; shared.span, token.span);
+    assert_eq!(rt; shared.edition, Edition::E2018);
+    assert_eq!(rt; shared.marks.as_slice(), [Mark(3), Mark(4)].as_slice());
+    assert!(rt; shared.doc);
     Ok(())
 }
 

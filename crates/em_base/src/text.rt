@@ -4,19 +4,21 @@ ghost use Rattle.std.specs.Str.{IsAscii};
 use crate::memory::NoMemory;
 use std::alloc::Global;
 use std::marker::Model;
+use std::rc::{RcSlice, RcStr};
 
-/// A `String` that contracts see as the list of its bytes.
+/// A shared string that contracts see as the list of its bytes.
 #[derive(Debug, Drop)]
 pub struct Text {
-    text: String,
+    text: RcStr,
 }
 
 impl Model for Text {
-    ghost use Rattle.std.specs.Prelude.{List, ℕ, string_bytes};
+    ghost use Rattle.std.specs.Prelude.{List, ℕ};
+    ghost use Rattle.std.specs.Rc.{rc_str_bytes};
 
     ghost Value = { List ℕ };
 
-    ghost view = { λ t. string_bytes t.text };
+    ghost view = { λ t. rc_str_bytes t.text };
 }
 
 impl Text {
@@ -24,7 +26,7 @@ impl Text {
         ensures { IfOk result (λ t. t ≡ text.now) }
     {
         Ok(Text {
-            text: String::from_str(alloc, text)?,
+            text: RcStr::from_str(alloc, text)?,
         })
     }
 
@@ -34,16 +36,25 @@ impl Text {
         requires { IsAscii bytes.now }
         ensures { IfOk result (λ t. t ≡ bytes.now) }
     {
+        Text::from_string(String::from_utf8_lossy(alloc, bytes)?)
+    }
+
+    /// The text of a string, whose bytes aren't copied.
+    pub fn from_string(text: String) -> Result<Text, NoMemory>
+        ensures { IfOk result (λ t. t ≡ string_bytes text) }
+    {
         Ok(Text {
-            text: String::from_utf8_lossy(alloc, bytes)?,
+            text: RcStr::from_string(text)?,
         })
     }
 
-    /// The text of a string. Takes no memory.
-    pub fn from_string(text: String) -> Text
-        ensures { result ≡ string_bytes text }
+    /// The same text, whose bytes aren't copied.
+    pub fn share(&self) -> Result<Text, NoMemory>
+        ensures { IfOk result (λ t. t ≡ self.now) }
     {
-        Text { text }
+        Ok(Text {
+            text: self.text.clone()?,
+        })
     }
 
     pub fn as_str(&self) -> &str
@@ -124,5 +135,46 @@ impl Bytes {
     {
         self.bytes.extend_from_slice(more)?;
         Ok(())
+    }
+}
+
+/// A shared `[u8]` that contracts see as the list of its bytes: what a byte string literal denotes.
+#[derive(Debug, Drop)]
+pub struct ByteText {
+    bytes: RcSlice<u8>,
+}
+
+impl Model for ByteText {
+    ghost use Rattle.std.specs.Prelude.{List, ℕ};
+    ghost use Rattle.std.specs.Rc.{rc_slice_items};
+
+    ghost Value = { List ℕ };
+
+    ghost view = { λ b. rc_slice_items b.bytes };
+}
+
+impl ByteText {
+    /// The text of a vector's bytes, which aren't copied.
+    pub fn from_vec(bytes: Vec<u8>) -> Result<ByteText, NoMemory>
+        ensures { IfOk result (λ b. b ≡ bytes.items) }
+    {
+        Ok(ByteText {
+            bytes: RcSlice::from_vec(bytes)?,
+        })
+    }
+
+    pub fn as_slice(&self) -> &[u8]
+        ensures { result.now ≡ self.now }
+    {
+        self.bytes.as_slice()
+    }
+
+    /// The same bytes, which aren't copied.
+    pub fn share(&self) -> Result<ByteText, NoMemory>
+        ensures { IfOk result (λ b. b ≡ self.now) }
+    {
+        Ok(ByteText {
+            bytes: self.bytes.clone()?,
+        })
     }
 }

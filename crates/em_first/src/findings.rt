@@ -14,7 +14,7 @@ fn finding(alloc: Global, token: &Token) -> Result<Suggestion, NoMemory>
     let mut parts = List::new(alloc);
     parts.push(Part {
         span: token.span,
-        text: Text::from_string(text),
+        text: Text::from_string(text)?,
     })?;
     Ok(Suggestion {
         lint: Lint::Keyword,

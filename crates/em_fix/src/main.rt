@@ -15,6 +15,7 @@ use crate::lines::tell;
 use crate::status::{Status, code};
 use em_base::{List, Text};
 use em_disk::{FolderFiles, StdoutSink};
+use std::alloc::AllocError;
 use std::io::ErrorKind;
 use std::process::ExitCode;
 use std::{env, io};
@@ -23,7 +24,7 @@ use std::{env, io};
 fn words_of(rt: &HostRuntime) -> io::Result<List<Text>> {
     let mut words = Vec::new(rt.alloc());
     for word in env::args(rt)?.skip(1) {
-        words.push(Text::from_string(word))?;
+        words.push(Text::from_string(word).map_err(|_| AllocError)?)?;
     }
     Ok(List::from_vec(words))
 }

@@ -22,8 +22,8 @@ pub enum ManifestKind {
     /// A dependency has another form than a path, or two give one name.
     #[error("a dependency is no path with a name of its own")]
     BadDependency,
-    /// It has a section that stands for more than one crate.
-    #[error("a section stands for more than one crate")]
+    /// It has a section or key that isn't followed: a workspace, a build script, a target with a path of its own.
+    #[error("a section or key isn't followed")]
     Section,
     /// There is no target.
     #[error("there is no target")]
