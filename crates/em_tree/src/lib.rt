@@ -14,6 +14,7 @@ mod parts;
 mod pat;
 mod piece;
 mod shared;
+mod start_sets;
 mod types;
 
 pub use expanded::{CallRecord, CrateTree, Expanded};
@@ -33,4 +34,5 @@ pub use parts::Listed;
 pub use pat::{Alternative, FieldPat, Pat, TopPat};
 pub use piece::{Delimited, FragmentKind, Group, Piece, PieceList};
 pub use shared::Shared;
+pub use start_sets::starts;
 pub use types::{Bound, Output, Path, PathStep, Qualified, Segment, Segments, TypeTree};
