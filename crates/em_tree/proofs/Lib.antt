@@ -1,2 +1,6 @@
 mod Tables
 mod Bars
+mod Layers
+mod Join
+mod Puts
+mod Opened
