@@ -2,6 +2,7 @@ use crate::literal::Literal;
 use crate::parts::Listed;
 use crate::pat::{Pat, TopPat};
 use crate::piece::{Delimited, Group};
+use crate::shared::Shared;
 use crate::types::{Path, TypeTree};
 use em_base::Token;
 use sqlite_items::{Boxed, Items};
@@ -10,14 +11,17 @@ use sqlite_items::{Boxed, Items};
 #[derive(Drop)]
 pub enum Annotation {
     Nothing,
-    Type { colon: Token, ty: Boxed<TypeTree> },
+    Type {
+        colon: Shared<Token>,
+        ty: Boxed<TypeTree>,
+    },
 }
 
 /// A field of a struct expression (Reference, "Struct expressions").
 #[derive(Drop)]
 pub struct FieldExpr<E> {
-    pub name: Token,
-    pub colon: Option<Token>,
+    pub name: Shared<Token>,
+    pub colon: Option<Shared<Token>>,
     pub value: Option<E>,
 }
 
@@ -26,18 +30,18 @@ pub struct FieldExpr<E> {
 pub struct ClosureParam {
     pub pat: Pat,
     pub annotation: Annotation,
-    pub comma: Option<Token>,
+    pub comma: Option<Shared<Token>>,
 }
 
 /// The parameters of a closure between their bars (Reference, "Closure expressions").
 #[derive(Drop)]
 pub enum ClosureHead {
     /// `||`.
-    Empty(Token),
+    Empty(Shared<Token>),
     Bars {
-        open: Token,
+        open: Shared<Token>,
         params: Items<ClosureParam>,
-        close: Token,
+        close: Shared<Token>,
     },
 }
 
@@ -46,9 +50,9 @@ pub enum ClosureHead {
 pub enum Condition<E> {
     Expr(E),
     Let {
-        word: Token,
+        word: Shared<Token>,
         pat: TopPat,
-        equals: Token,
+        equals: Shared<Token>,
         value: E,
     },
 }
@@ -57,16 +61,16 @@ pub enum Condition<E> {
 #[derive(Drop)]
 pub struct Arm<E> {
     pub pat: TopPat,
-    pub arrow: Token,
+    pub arrow: Shared<Token>,
     pub body: E,
-    pub comma: Option<Token>,
+    pub comma: Option<Shared<Token>>,
 }
 
 /// `&` and a variable.
 #[derive(Drop)]
 pub struct Reference {
-    pub amp: Token,
-    pub name: Token,
+    pub amp: Shared<Token>,
+    pub name: Shared<Token>,
 }
 
 /// What the statement `let _ = ..;` mentions.
@@ -74,9 +78,9 @@ pub struct Reference {
 pub enum Refs {
     One(Reference),
     Many {
-        open: Token,
+        open: Shared<Token>,
         list: Items<Listed<Reference>>,
-        close: Token,
+        close: Shared<Token>,
     },
 }
 
@@ -85,16 +89,16 @@ pub enum Refs {
 #[derive(Drop)]
 pub struct Block<B> {
     pub groups: Items<Group>,
-    pub open: Token,
+    pub open: Shared<Token>,
     pub body: B,
-    pub close: Token,
+    pub close: Shared<Token>,
 }
 
 /// A macro call.
 #[derive(Drop)]
 pub struct MacroCall {
-    pub name: Token,
-    pub bang: Token,
+    pub name: Shared<Token>,
+    pub bang: Shared<Token>,
     pub text: Delimited,
 }
 
@@ -102,8 +106,8 @@ pub struct MacroCall {
 #[cycle(exprs)]
 #[derive(Drop)]
 pub struct ElseIf {
-    pub word_else: Token,
-    pub word: Token,
+    pub word_else: Shared<Token>,
+    pub word: Shared<Token>,
     pub condition: Condition<Boxed<Expr>>,
     pub then: Boxed<Block<Body>>,
 }
@@ -112,142 +116,142 @@ pub struct ElseIf {
 #[cycle(exprs)]
 #[derive(Drop)]
 pub enum Expr {
-    Literal(Token),
+    Literal(Shared<Token>),
     Path(Path),
     Struct {
         path: Path,
-        open: Token,
+        open: Shared<Token>,
         fields: Items<Listed<FieldExpr<Expr>>>,
-        close: Token,
+        close: Shared<Token>,
     },
     Paren {
-        open: Token,
+        open: Shared<Token>,
         inner: Boxed<Expr>,
-        close: Token,
+        close: Shared<Token>,
     },
     Array {
-        open: Token,
+        open: Shared<Token>,
         elements: Items<Listed<Expr>>,
-        close: Token,
+        close: Shared<Token>,
     },
     Repeat {
-        open: Token,
+        open: Shared<Token>,
         element: Boxed<Expr>,
-        semi: Token,
+        semi: Shared<Token>,
         length: Literal,
-        close: Token,
+        close: Shared<Token>,
     },
     Block(Boxed<Block<Body>>),
     If {
-        word: Token,
+        word: Shared<Token>,
         condition: Condition<Boxed<Expr>>,
         then: Boxed<Block<Body>>,
         branches: Items<ElseIf>,
-        word_else: Option<Token>,
+        word_else: Option<Shared<Token>>,
         otherwise: Option<Boxed<Block<Body>>>,
     },
     Match {
-        word: Token,
+        word: Shared<Token>,
         scrutinee: Boxed<Expr>,
-        open: Token,
+        open: Shared<Token>,
         arms: Items<Arm<Expr>>,
-        close: Token,
+        close: Shared<Token>,
     },
     While {
-        word: Token,
+        word: Shared<Token>,
         condition: Boxed<Expr>,
         body: Boxed<Block<Body>>,
     },
     Loop {
-        word: Token,
+        word: Shared<Token>,
         body: Boxed<Block<Body>>,
     },
     /// `for` over the values of one expression, or from one to before or up to another.
     For {
-        word: Token,
+        word: Shared<Token>,
         pat: Boxed<Pat>,
-        word_in: Token,
+        word_in: Shared<Token>,
         head: Boxed<Expr>,
-        dots: Option<Token>,
+        dots: Option<Shared<Token>>,
         end: Option<Boxed<Expr>>,
         body: Boxed<Block<Body>>,
     },
     Closure {
-        word_move: Option<Token>,
+        word_move: Option<Shared<Token>>,
         head: ClosureHead,
         body: Boxed<Expr>,
     },
     /// A closure with a result type, whose body is a block.
     ClosureTo {
-        word_move: Option<Token>,
+        word_move: Option<Shared<Token>>,
         head: ClosureHead,
-        arrow: Token,
+        arrow: Shared<Token>,
         output: Boxed<TypeTree>,
         body: Boxed<Block<Body>>,
     },
     Macro(MacroCall),
     Return {
-        word: Token,
+        word: Shared<Token>,
         value: Option<Boxed<Expr>>,
     },
-    Break(Token),
-    Continue(Token),
+    Break(Shared<Token>),
+    Continue(Shared<Token>),
     MethodCall {
         receiver: Boxed<Expr>,
-        dot: Token,
-        name: Token,
-        open: Token,
+        dot: Shared<Token>,
+        name: Shared<Token>,
+        open: Shared<Token>,
         arguments: Items<Listed<Expr>>,
-        close: Token,
+        close: Shared<Token>,
     },
     Call {
         callee: Boxed<Expr>,
-        open: Token,
+        open: Shared<Token>,
         arguments: Items<Listed<Expr>>,
-        close: Token,
+        close: Shared<Token>,
     },
     Field {
         base: Boxed<Expr>,
-        dot: Token,
-        name: Token,
+        dot: Shared<Token>,
+        name: Shared<Token>,
     },
     /// The field of a tuple struct, by its number.
     Place {
         base: Boxed<Expr>,
-        dot: Token,
+        dot: Shared<Token>,
         number: Literal,
     },
     Index {
         base: Boxed<Expr>,
-        open: Token,
+        open: Shared<Token>,
         index: Boxed<Expr>,
-        close: Token,
+        close: Shared<Token>,
     },
     /// `-`, `!` or `*`.
     Unary {
-        operator: Token,
+        operator: Shared<Token>,
         operand: Boxed<Expr>,
     },
     Ref {
-        amp: Token,
-        word_mut: Option<Token>,
+        amp: Shared<Token>,
+        word_mut: Option<Shared<Token>>,
         operand: Boxed<Expr>,
     },
     /// `&&x`, two references of which the inner one may be `mut`.
     RefRef {
-        amps: Token,
-        word_mut: Option<Token>,
+        amps: Shared<Token>,
+        word_mut: Option<Shared<Token>>,
         operand: Boxed<Expr>,
     },
     Binary {
         left: Boxed<Expr>,
-        operator: Token,
+        operator: Shared<Token>,
         right: Boxed<Expr>,
     },
     /// `=`, or an operator and `=`.
     Assign {
         left: Boxed<Expr>,
-        operator: Token,
+        operator: Shared<Token>,
         right: Boxed<Expr>,
     },
     /// A fragment that is an expression: of the kinds `expr` and `literal`, and a tail of the kind `stmt`.
@@ -263,37 +267,37 @@ pub enum Expr {
 pub enum Stmt {
     /// `let _ = &x;` or `let _ = (&x, &y);`.
     Mention {
-        word: Token,
-        underscore: Token,
-        equals: Token,
+        word: Shared<Token>,
+        underscore: Shared<Token>,
+        equals: Shared<Token>,
         refs: Refs,
-        semi: Option<Token>,
+        semi: Option<Shared<Token>>,
     },
     Let {
-        word: Token,
+        word: Shared<Token>,
         pat: Boxed<Pat>,
         annotation: Annotation,
-        equals: Token,
+        equals: Shared<Token>,
         value: Boxed<Expr>,
-        semi: Option<Token>,
+        semi: Option<Shared<Token>>,
     },
     Macro {
         call: MacroCall,
-        semi: Option<Token>,
+        semi: Option<Shared<Token>>,
     },
     Expr {
         value: Boxed<Expr>,
-        semi: Option<Token>,
+        semi: Option<Shared<Token>>,
     },
     /// A block, `if`, `match` or loop.
     BlockLike {
         value: Boxed<Expr>,
-        semi: Option<Token>,
+        semi: Option<Shared<Token>>,
     },
     Group {
         group: Group,
         inner: Boxed<Stmt>,
-        semi: Option<Token>,
+        semi: Option<Shared<Token>>,
     },
 }
 

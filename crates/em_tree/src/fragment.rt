@@ -11,7 +11,7 @@ use sqlite_items::Boxed;
 /// A token tree (Reference, "Macros by example").
 #[derive(Drop)]
 pub enum TokenTree {
-    Token(Token),
+    Token(Shared<Token>),
     Group(Group),
     Delimited(Delimited),
 }
@@ -19,7 +19,7 @@ pub enum TokenTree {
 /// The tree of a fragment, by its kind.
 #[derive(Drop)]
 pub enum FragmentNode {
-    Ident(Token),
+    Ident(Shared<Token>),
     Tt(TokenTree),
     Literal(Literal),
     Block(Boxed<Block<Body>>),

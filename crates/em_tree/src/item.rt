@@ -3,6 +3,7 @@ use crate::literal::Literal;
 use crate::parts::Listed;
 use crate::pat::Pat;
 use crate::piece::{Delimited, Group, Piece};
+use crate::shared::Shared;
 use crate::types::{Output, Path, Segments, TypeTree};
 use em_base::Token;
 use sqlite_items::{Boxed, Items};
@@ -12,56 +13,59 @@ use sqlite_items::{Boxed, Items};
 pub enum MetaInput {
     Nothing,
     List(Delimited),
-    Value { equals: Token, literal: Literal },
+    Value {
+        equals: Shared<Token>,
+        literal: Literal,
+    },
 }
 
 /// What an attribute has between its brackets.
 #[derive(Drop)]
 pub struct Meta {
-    pub name: Token,
+    pub name: Shared<Token>,
     pub input: MetaInput,
 }
 
 /// An attribute of an item: `#[..]`.
 #[derive(Drop)]
 pub struct Attribute {
-    pub hash: Token,
-    pub open: Token,
+    pub hash: Shared<Token>,
+    pub open: Shared<Token>,
     pub meta: Meta,
-    pub close: Token,
+    pub close: Shared<Token>,
 }
 
 /// An attribute of the file: `#![..]`.
 #[derive(Drop)]
 pub struct FileAttribute {
-    pub hash: Token,
-    pub bang: Token,
-    pub open: Token,
+    pub hash: Shared<Token>,
+    pub bang: Shared<Token>,
+    pub open: Shared<Token>,
     pub meta: Meta,
-    pub close: Token,
+    pub close: Shared<Token>,
 }
 
 /// The module that a visibility reaches: `(crate)`, `(self)` or `(super)`.
 #[derive(Drop)]
 pub struct VisScope {
-    pub open: Token,
-    pub module: Token,
-    pub close: Token,
+    pub open: Shared<Token>,
+    pub module: Shared<Token>,
+    pub close: Shared<Token>,
 }
 
 /// A visibility (Reference, "Visibility and privacy").
 #[derive(Drop)]
 pub struct Vis {
-    pub word: Token,
+    pub word: Shared<Token>,
     pub scope: Option<VisScope>,
 }
 
 /// The receiver of a method: `self`, `mut self`, `&self` or `&mut self`.
 #[derive(Drop)]
 pub struct SelfParam {
-    pub amp: Option<Token>,
-    pub word_mut: Option<Token>,
-    pub word: Token,
+    pub amp: Option<Shared<Token>>,
+    pub word_mut: Option<Shared<Token>>,
+    pub word: Shared<Token>,
 }
 
 /// A parameter of a function (Reference, "Functions"). One of a trait may have no pattern.
@@ -69,7 +73,7 @@ pub struct SelfParam {
 pub enum Param {
     Typed {
         pat: Pat,
-        colon: Token,
+        colon: Shared<Token>,
         ty: TypeTree,
     },
     Anonymous(TypeTree),
@@ -78,19 +82,19 @@ pub enum Param {
 /// The head of a function.
 #[derive(Drop)]
 pub struct Sig {
-    pub word: Token,
-    pub name: Token,
-    pub open: Token,
+    pub word: Shared<Token>,
+    pub name: Shared<Token>,
+    pub open: Shared<Token>,
     pub receiver: Option<Listed<SelfParam>>,
     pub params: Items<Listed<Param>>,
-    pub close: Token,
+    pub close: Shared<Token>,
     pub output: Output,
 }
 
 /// What follows the head of a trait's function.
 #[derive(Drop)]
 pub enum TraitBody {
-    Semi(Token),
+    Semi(Shared<Token>),
     Block(Boxed<Block<Body>>),
 }
 
@@ -113,15 +117,15 @@ pub struct ImplFn {
 #[derive(Drop)]
 pub struct ImplTrait {
     pub path: Boxed<Path>,
-    pub word_for: Token,
+    pub word_for: Shared<Token>,
 }
 
 /// A field of a struct with braces.
 #[derive(Drop)]
 pub struct FieldDecl {
     pub vis: Option<Vis>,
-    pub name: Token,
-    pub colon: Token,
+    pub name: Shared<Token>,
+    pub colon: Shared<Token>,
     pub ty: TypeTree,
 }
 
@@ -136,26 +140,26 @@ pub struct TupleDecl {
 #[derive(Drop)]
 pub enum StructFields {
     Unit {
-        semi: Token,
+        semi: Shared<Token>,
     },
     Named {
-        open: Token,
+        open: Shared<Token>,
         fields: Items<Listed<FieldDecl>>,
-        close: Token,
+        close: Shared<Token>,
     },
     Tuple {
-        open: Token,
+        open: Shared<Token>,
         fields: Items<Listed<TupleDecl>>,
-        close: Token,
-        semi: Token,
+        close: Shared<Token>,
+        semi: Shared<Token>,
     },
 }
 
 /// A field of a variant with braces.
 #[derive(Drop)]
 pub struct VariantField {
-    pub name: Token,
-    pub colon: Token,
+    pub name: Shared<Token>,
+    pub colon: Shared<Token>,
     pub ty: TypeTree,
 }
 
@@ -164,35 +168,35 @@ pub struct VariantField {
 pub enum VariantFields {
     Unit,
     Tuple {
-        open: Token,
+        open: Shared<Token>,
         fields: Items<Listed<TypeTree>>,
-        close: Token,
+        close: Shared<Token>,
     },
     Named {
-        open: Token,
+        open: Shared<Token>,
         fields: Items<Listed<VariantField>>,
-        close: Token,
+        close: Shared<Token>,
     },
 }
 
 /// A variant of an enum.
 #[derive(Drop)]
 pub struct VariantDecl {
-    pub name: Token,
+    pub name: Shared<Token>,
     pub fields: VariantFields,
 }
 
 /// `as` and the name that an import binds.
 #[derive(Drop)]
 pub struct Rename {
-    pub word: Token,
-    pub name: Token,
+    pub word: Shared<Token>,
+    pub name: Shared<Token>,
 }
 
 /// A name of an import with braces.
 #[derive(Drop)]
 pub struct UseName {
-    pub name: Token,
+    pub name: Shared<Token>,
     pub rename: Option<Rename>,
 }
 
@@ -200,89 +204,89 @@ pub struct UseName {
 #[derive(Drop)]
 pub enum ItemBody<I> {
     ExternCrate {
-        word: Token,
-        word_crate: Token,
-        name: Token,
+        word: Shared<Token>,
+        word_crate: Shared<Token>,
+        name: Shared<Token>,
         rename: Option<Rename>,
-        semi: Token,
+        semi: Shared<Token>,
     },
     Use {
-        word: Token,
+        word: Shared<Token>,
         path: Segments,
         rename: Option<Rename>,
-        semi: Token,
+        semi: Shared<Token>,
     },
     UseList {
-        word: Token,
+        word: Shared<Token>,
         path: Segments,
-        separator: Token,
-        open: Token,
+        separator: Shared<Token>,
+        open: Shared<Token>,
         names: Items<Listed<UseName>>,
-        close: Token,
-        semi: Token,
+        close: Shared<Token>,
+        semi: Shared<Token>,
     },
     ModFile {
-        word: Token,
-        name: Token,
-        semi: Token,
+        word: Shared<Token>,
+        name: Shared<Token>,
+        semi: Shared<Token>,
     },
     ModBlock {
-        word: Token,
-        name: Token,
-        open: Token,
+        word: Shared<Token>,
+        name: Shared<Token>,
+        open: Shared<Token>,
         items: Items<I>,
-        close: Token,
+        close: Shared<Token>,
     },
     Fn {
         sig: Boxed<Sig>,
         body: Boxed<Block<Body>>,
     },
     Struct {
-        word: Token,
-        name: Token,
+        word: Shared<Token>,
+        name: Shared<Token>,
         fields: StructFields,
     },
     Enum {
-        word: Token,
-        name: Token,
-        open: Token,
+        word: Shared<Token>,
+        name: Shared<Token>,
+        open: Shared<Token>,
         variants: Items<Listed<VariantDecl>>,
-        close: Token,
+        close: Shared<Token>,
     },
     Trait {
-        word: Token,
-        name: Token,
-        open: Token,
+        word: Shared<Token>,
+        name: Shared<Token>,
+        open: Shared<Token>,
         functions: Items<TraitFn>,
-        close: Token,
+        close: Shared<Token>,
     },
     Impl {
-        word: Token,
+        word: Shared<Token>,
         of_trait: Option<ImplTrait>,
         self_type: Boxed<TypeTree>,
-        open: Token,
+        open: Shared<Token>,
         functions: Items<ImplFn>,
-        close: Token,
+        close: Shared<Token>,
     },
     Const {
-        word: Token,
-        name: Token,
-        colon: Token,
+        word: Shared<Token>,
+        name: Shared<Token>,
+        colon: Shared<Token>,
         ty: Boxed<TypeTree>,
-        equals: Token,
+        equals: Shared<Token>,
         value: Literal,
-        semi: Token,
+        semi: Shared<Token>,
     },
     Rules {
-        word: Token,
-        bang: Token,
-        name: Token,
+        word: Shared<Token>,
+        bang: Shared<Token>,
+        name: Shared<Token>,
         text: Delimited,
-        semi: Option<Token>,
+        semi: Option<Shared<Token>>,
     },
     Macro {
         call: MacroCall,
-        semi: Option<Token>,
+        semi: Option<Shared<Token>>,
     },
 }
 

@@ -1,4 +1,5 @@
 use crate::piece::Group;
+use crate::shared::Shared;
 use em_base::Token;
 use sqlite_items::Boxed;
 
@@ -6,7 +7,13 @@ use sqlite_items::Boxed;
 #[cycle(literals)]
 #[derive(Drop)]
 pub enum Literal {
-    Token(Token),
-    Negative { minus: Token, value: Boxed<Literal> },
-    Group { group: Group, inner: Boxed<Literal> },
+    Token(Shared<Token>),
+    Negative {
+        minus: Shared<Token>,
+        value: Boxed<Literal>,
+    },
+    Group {
+        group: Group,
+        inner: Boxed<Literal>,
+    },
 }

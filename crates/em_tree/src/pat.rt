@@ -1,6 +1,7 @@
 use crate::literal::Literal;
 use crate::parts::Listed;
 use crate::piece::Group;
+use crate::shared::Shared;
 use crate::types::Path;
 use em_base::Token;
 use sqlite_items::{Boxed, Items};
@@ -9,14 +10,14 @@ use sqlite_items::{Boxed, Items};
 #[derive(Drop)]
 pub enum FieldPat<P> {
     Full {
-        name: Token,
-        colon: Token,
+        name: Shared<Token>,
+        colon: Shared<Token>,
         pat: P,
     },
     Short {
-        word_ref: Option<Token>,
-        word_mut: Option<Token>,
-        name: Token,
+        word_ref: Option<Shared<Token>>,
+        word_mut: Option<Shared<Token>>,
+        name: Shared<Token>,
     },
 }
 
@@ -24,31 +25,31 @@ pub enum FieldPat<P> {
 #[cycle(pats)]
 #[derive(Drop)]
 pub enum Pat {
-    Wild(Token),
+    Wild(Shared<Token>),
     Name {
-        word_ref: Option<Token>,
-        word_mut: Option<Token>,
-        name: Token,
+        word_ref: Option<Shared<Token>>,
+        word_mut: Option<Shared<Token>>,
+        name: Shared<Token>,
     },
     Literal(Literal),
     Range {
         start: Literal,
-        dots: Token,
+        dots: Shared<Token>,
         end: Literal,
     },
     Path(Path),
     Tuple {
         path: Path,
-        open: Token,
+        open: Shared<Token>,
         fields: Items<Listed<Pat>>,
-        close: Token,
+        close: Shared<Token>,
     },
     Struct {
         path: Path,
-        open: Token,
+        open: Shared<Token>,
         fields: Items<Listed<FieldPat<Pat>>>,
-        rest: Option<Token>,
-        close: Token,
+        rest: Option<Shared<Token>>,
+        close: Shared<Token>,
     },
     Group {
         group: Group,
@@ -59,7 +60,7 @@ pub enum Pat {
 /// An alternative of a pattern. The first may lack its bar.
 #[derive(Drop)]
 pub struct Alternative {
-    pub bar: Option<Token>,
+    pub bar: Option<Shared<Token>>,
     pub pat: Pat,
 }
 

@@ -48,7 +48,7 @@ pub struct PieceList {
 /// Macro text between its delimiters (Reference, "Macro invocation").
 #[derive(Drop)]
 pub struct Delimited {
-    pub open: Token,
+    pub open: Shared<Token>,
     pub text: Items<Piece>,
-    pub close: Token,
+    pub close: Shared<Token>,
 }

@@ -1,27 +1,28 @@
 use crate::literal::Literal;
 use crate::parts::Listed;
 use crate::piece::Group;
+use crate::shared::Shared;
 use em_base::Token;
 use sqlite_items::{Boxed, Items};
 
 /// A segment of a path. `$crate` is the two tokens `$` and `crate` (Reference, "Path qualifiers").
 #[derive(Drop)]
 pub struct Segment {
-    pub dollar: Option<Token>,
-    pub name: Token,
+    pub dollar: Option<Shared<Token>>,
+    pub name: Shared<Token>,
 }
 
 /// A further segment of a path.
 #[derive(Drop)]
 pub struct PathStep {
-    pub separator: Token,
+    pub separator: Shared<Token>,
     pub segment: Segment,
 }
 
 /// The segments of a path, with a `::` before the first one where it begins with one.
 #[derive(Drop)]
 pub struct Segments {
-    pub lead: Option<Token>,
+    pub lead: Option<Shared<Token>>,
     pub first: Segment,
     pub more: Items<PathStep>,
 }
@@ -39,13 +40,13 @@ pub enum Path {
 #[cycle(types)]
 #[derive(Drop)]
 pub struct Qualified {
-    pub open: Token,
+    pub open: Shared<Token>,
     pub self_type: TypeTree,
-    pub word: Token,
+    pub word: Shared<Token>,
     pub of_trait: Path,
-    pub close: Token,
-    pub separator: Token,
-    pub name: Token,
+    pub close: Shared<Token>,
+    pub separator: Shared<Token>,
+    pub name: Shared<Token>,
 }
 
 /// The type after an arrow, or nothing for the type `()`.
@@ -53,7 +54,10 @@ pub struct Qualified {
 #[derive(Drop)]
 pub enum Output {
     Unit,
-    Type { arrow: Token, ty: Boxed<TypeTree> },
+    Type {
+        arrow: Shared<Token>,
+        ty: Boxed<TypeTree>,
+    },
 }
 
 /// A trait of a trait object (Reference, "Trait objects").
@@ -64,9 +68,9 @@ pub enum Bound {
     /// `Fn(A, B) -> C`.
     Call {
         path: Path,
-        open: Token,
+        open: Shared<Token>,
         inputs: Items<Listed<TypeTree>>,
-        close: Token,
+        close: Shared<Token>,
         output: Output,
     },
 }
@@ -78,40 +82,40 @@ pub enum TypeTree {
     Path(Path),
     /// `Box<T>`. It has no `close` where the `>>` of an outer one closes it.
     Boxed {
-        word: Token,
-        open: Token,
+        word: Shared<Token>,
+        open: Shared<Token>,
         inner: Boxed<TypeTree>,
-        close: Option<Token>,
+        close: Option<Shared<Token>>,
     },
     Ref {
-        amp: Token,
-        word_mut: Option<Token>,
+        amp: Shared<Token>,
+        word_mut: Option<Shared<Token>>,
         inner: Boxed<TypeTree>,
     },
     /// `&&T`, two references of which the inner one may be `mut`.
     RefRef {
-        amps: Token,
-        word_mut: Option<Token>,
+        amps: Shared<Token>,
+        word_mut: Option<Shared<Token>>,
         inner: Boxed<TypeTree>,
     },
     Array {
-        open: Token,
+        open: Shared<Token>,
         element: Boxed<TypeTree>,
-        semi: Token,
+        semi: Shared<Token>,
         length: Literal,
-        close: Token,
+        close: Shared<Token>,
     },
     Slice {
-        open: Token,
+        open: Shared<Token>,
         element: Boxed<TypeTree>,
-        close: Token,
+        close: Shared<Token>,
     },
     Unit {
-        open: Token,
-        close: Token,
+        open: Shared<Token>,
+        close: Shared<Token>,
     },
     Dyn {
-        word: Token,
+        word: Shared<Token>,
         bound: Boxed<Bound>,
     },
     /// A trait object without `dyn`, told from a path by its parentheses.
