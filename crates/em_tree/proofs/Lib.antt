@@ -4,3 +4,5 @@ mod Layers
 mod Join
 mod Puts
 mod Opened
+mod Adds
+mod Edges

@@ -6,6 +6,7 @@
 
 mod expanded;
 mod expr;
+mod first;
 mod fragment;
 mod item;
 mod literal;
@@ -13,9 +14,14 @@ mod node;
 mod parts;
 mod pat;
 mod piece;
+mod put;
+mod put_parts;
+mod put_pat;
+mod put_type;
 mod shared;
 mod start_sets;
 mod types;
+mod writer;
 
 pub use expanded::{CallRecord, CrateTree, Expanded};
 pub use expr::{
