@@ -15,6 +15,7 @@ mod parts;
 mod pat;
 mod piece;
 mod put;
+mod put_expr;
 mod put_parts;
 mod put_pat;
 mod put_type;
