@@ -8,6 +8,7 @@ mod expanded;
 mod expr;
 mod fragment;
 mod item;
+mod laws;
 mod literal;
 mod node;
 mod parts;
