@@ -9,8 +9,7 @@ use Rattle.em_tree.specs.declared.piece.Piece.TheVariants as p
 use Rattle.em_tree.specs.declared.literal.Literal.{Literal}
 use Rattle.em_tree.specs.declared.types.Path.{Path}
 use Rattle.em_tree.specs.declared.types.TypeTree.{TypeTree}
-use Rattle.em_tree.specs.declared.pat.Pat.{Pat, out-Pat}
-use Rattle.em_tree.specs.declared.pat.Pat.TheOpen.{Pat-F}
+use Rattle.em_tree.specs.declared.pat.Pat.{Pat}
 use Rattle.em_tree.specs.declared.pat.TopPat.{TopPat}
 use Rattle.em_tree.specs.declared.expr.Annotation.{Annotation}
 use Rattle.em_tree.specs.declared.expr.Annotation.TheVariants as annotation
@@ -34,10 +33,10 @@ use Rattle.em_tree.specs.declared.expr.Expr.TheOpen.{Expr-F, Stmt-F}
 use Rattle.em_tree.specs.Parts.{expr_parts, stmt_parts, body_parts, block_parts}
 use Rattle.em_tree.specs.Starts.{kind_of, pieces_of}
 use Rattle.em_tree.specs.Tokens.{Is, IsOneOf, Maybe, Each, Commas, Name, IsLiteralToken, IsDelimited, Ends}
-use Rattle.em_tree.specs.Yields.{piece, whole, as_it_is}
-use Rattle.em_tree.specs.PathGrammar.{IsLiteral, IsIntLiteral, TypeWithin, PathWithin}
-use Rattle.em_tree.specs.PatGrammar.{IsPat, IsTopPat}
-use Rattle.em_tree.specs.ExprShape.{strength, operator_strength, comparison, postfix, unary, assignment, Edge, Fine, BlockLike, Braces, Round, PastBlock, edge, ends_bare}
+use Rattle.em_tree.specs.Yields.{piece, whole, as_it_is, opened}
+use Rattle.em_tree.specs.PathGrammar.{IsLiteral, IsIntLiteral, TypeWithin, PathWithin, literal_pieces}
+use Rattle.em_tree.specs.PatGrammar.{IsPat, IsTopPat, pat_pieces}
+use Rattle.em_tree.specs.ExprShape.{strength, operator_strength, comparison, postfix, unary, assignment, takes_all, Edge, Fine, BlockLike, Braces, Round, PastBlock, edge, ends_bare}
 
 abbrev pub expr_pieces : Expr → List Piece
 expr_pieces x = expr_parts piece whole as_it_is x
@@ -82,9 +81,9 @@ abbrev pub IsHead : ℕ → ClosureHead → Type 0
 IsHead depth (head.Empty bars) = Is (codes "||") bars
 IsHead depth (head.Bars open' params close) = Is (codes "|") open' × AreParams depth params × Is (codes "|") close
 
--- the pattern isn't `_` alone without an annotation: such a statement mentions variables
+-- the pattern isn't `_` alone, in a fragment or not, without an annotation: such a statement mentions variables
 abbrev pub IsNoMention : Pat → Annotation → Type 0
-IsNoMention x annotation.Nothing = (t : Token) → out-Pat x ≡ Pat-F.Wild t → ⊥
+IsNoMention x annotation.Nothing = (t : Token) → opened (pat_pieces x) ≡ t ∷ [] → Is (codes "_") t → ⊥
 IsNoMention x (annotation.Type colon ty) = Unit {0}
 
 -- the `;` behind a statement in a block, which a fragment of the kind `stmt` lacks
@@ -102,7 +101,7 @@ abbrev pub EndsCall : (in_block : Bool) → MacroCall → Option Token → Type 
 EndsCall true call semi = Ends call.text semi
 EndsCall false call semi = semi ≡ None
 
--- a statement that an expression at a block's end would be, so that it isn't a block's last without one
+-- a statement without a `;` that could be a block's tail; as the block's last it is the tail
 abbrev pub is_open : Stmt-F Expr Stmt Body ElseIf → Bool
 is_open (Stmt-F.BlockLike value None) = true
 is_open (Stmt-F.Stmt::Macro call None) = true
@@ -131,6 +130,10 @@ IsFieldExpr Inner x = Name x.name × IsValue x.colon x.value
     IsValue None (Some value) = ⊥
     IsValue (Some colon) None = ⊥
 
+-- a fragment that is an operand: of the kind `expr`, or of the kind `literal`, whose pieces are a literal
+abbrev pub IsOperandGroup : Group → Type 0
+IsOperandGroup g = (kind_of g ≡ f.Expr) ⊎ ((kind_of g ≡ f.Literal) × ((l : Literal) × (pieces_of g ≡ literal_pieces l) × IsLiteral true l))
+
 -- ---- over the expressions inside, where `no_struct` says that a struct expression may not stand there, since a brace ends it
 
 module _ (depth : ℕ) (Inner Deeper : (no_struct : Bool) → Expr → Type 0) where
@@ -157,11 +160,11 @@ module _ (depth : ℕ) (Inner Deeper : (no_struct : Bool) → Expr → Type 0) w
     -- a group of the kind `stmt`, and the `;` behind it
     group : {in_block : Bool} {x y : Stmt} {g : Group} {semi : Option Token} → out-Stmt x ≡ Stmt-F.Stmt::Group g y semi → kind_of g ≡ f.Stmt → pieces_of g ≡ stmt_pieces y → IsStmt false y → HasSemi in_block semi → IsStmt in_block x
 
-  -- the expression at a block's end: it doesn't go on past a block or a call with braces at its start. A group of the kind `stmt` that is
-  -- an expression may stand there
-  pub data IsTail (x : Expr) : Type 0 where
-    expr : Inner false x → (edge x ≡ Fine) ⊎ (edge x ≡ BlockLike) ⊎ (edge x ≡ Braces) ⊎ (edge x ≡ Round) → IsTail x
-    group : {y : Expr} {g : Group} → out-Expr x ≡ Expr-F.Expr::Group g y → kind_of g ≡ f.Stmt → pieces_of g ≡ expr_pieces y → Inner false y → IsTail x
+  -- the expression at a block's end: it doesn't go on, but by a `.`, past a block or a call with braces at its start. A group of the kind
+  -- `stmt` that is an expression may stand there
+  pub data IsTail : Expr → Type 0 where
+    expr : {x : Expr} → Inner false x → (edge x ≡ Fine) ⊎ (edge x ≡ BlockLike) ⊎ (edge x ≡ Braces) ⊎ (edge x ≡ Round) → IsTail x
+    group : {x y : Expr} {g : Group} → out-Expr x ≡ Expr-F.Expr::Group g y → kind_of g ≡ f.Stmt → pieces_of g ≡ expr_pieces y → IsTail y → IsTail x
 
   abbrev pub IsEnd : List Stmt → Option Expr → Type 0
   IsEnd stmts None = LastIsClosed stmts
@@ -179,10 +182,10 @@ module _ (depth : ℕ) (Inner Deeper : (no_struct : Bool) → Expr → Type 0) w
 
   -- ---- heads, branches and arms
 
-  -- the scrutinee of an `if let` is no lazy operator's expression (Reference, "if let expressions")
+  -- the scrutinee of an `if let` is no lazy operator's expression and no assignment (Reference, "`if` expressions")
   abbrev pub IsCondition : Condition Expr → Type 0
   IsCondition (condition.Expr x) = BeforeBlock x
-  IsCondition (condition.Let word pat equals x) = Is (codes "let") word × IsTopPat depth pat × Is (codes "=") equals × BeforeBlock x × (comparison ≤ strength x)
+  IsCondition (condition.Let word pat equals x) = Is (codes "let") word × IsTopPat depth pat × Is (codes "=") equals × BeforeBlock x × ((comparison ≤ strength x) ⊎ (strength x ≡ takes_all))
 
   abbrev pub IsElseIf : ElseIf → Type 0
   IsElseIf x = Is (codes "else") (out-ElseIf x).word_else × Is (codes "if") (out-ElseIf x).word × IsCondition (out-ElseIf x).condition × IsBlock (out-ElseIf x).then
@@ -193,7 +196,7 @@ module _ (depth : ℕ) (Inner Deeper : (no_struct : Bool) → Expr → Type 0) w
   IsOtherwise None (Some b) = ⊥
   IsOtherwise (Some word) None = ⊥
 
-  -- an arm's body; one that begins with a block and goes on past it is none
+  -- an arm's body; one that begins with a block and goes on past it, but by a `.`, is none (Reference, "`match` expressions")
   abbrev pub IsArm : Arm Expr → Type 0
   IsArm a = IsTopPat depth a.pat × Is (codes "=>") a.arrow × Inner false a.body × (edge a.body ≢ PastBlock)
 
@@ -208,10 +211,11 @@ module _ (depth : ℕ) (Inner Deeper : (no_struct : Bool) → Expr → Type 0) w
   AreArms (a ∷ []) = IsArm a × EndsArm true a
   AreArms (a ∷ b ∷ more) = IsArm a × EndsArm false a × AreArms (b ∷ more)
 
-  -- what a `for` goes over: the values of an expression, or a range, whose sides bind more tightly than an assignment
+  -- what a `for` goes over: the values of an expression, or a range, whose sides bind more tightly than an assignment; the right one may
+  -- take all that follows (Reference, "Expression precedence" and "Range expressions")
   abbrev pub IsRange : Expr → Option Token → Option Expr → Type 0
   IsRange x None None = BeforeBlock x
-  IsRange x (Some dots) (Some y) = IsOneOf (codes ".." ∷ codes "..=" ∷ []) dots × AtLeast (suc assignment) true x × BeforeBlock y × (suc assignment ≤ strength y)
+  IsRange x (Some dots) (Some y) = IsOneOf (codes ".." ∷ codes "..=" ∷ []) dots × AtLeast (suc assignment) true x × BeforeBlock y × ((suc assignment ≤ strength y) ⊎ (strength y ≡ takes_all))
   IsRange x None (Some y) = ⊥
   IsRange x (Some dots) None = ⊥
 
@@ -263,7 +267,7 @@ module _ (depth : ℕ) (Inner Deeper : (no_struct : Bool) → Expr → Type 0) w
     assign : {h : Bool} {x y z : Expr} {operator : Token} → out-Expr x ≡ Expr-F.Assign y operator z → IsOneOf assignments operator
         → AtLeast (suc assignment) h y → AtLeast assignment h z → ExprNode h x
     -- a group adds no node, and what is in it stands as in parentheses
-    group : {h : Bool} {x y : Expr} {g : Group} → out-Expr x ≡ Expr-F.Expr::Group g y → (kind_of g ≡ f.Expr) ⊎ (kind_of g ≡ f.Literal) → pieces_of g ≡ expr_pieces y → ExprNode false y → ExprNode h x
+    group : {h : Bool} {x y : Expr} {g : Group} → out-Expr x ≡ Expr-F.Expr::Group g y → IsOperandGroup g → pieces_of g ≡ expr_pieces y → ExprNode false y → ExprNode h x
 
 -- the expressions that nest no deeper than the number
 unfoldable pub IsExpr : ℕ → Bool → Expr → Type 0
@@ -271,7 +275,7 @@ IsExpr zero h x = ⊥
 IsExpr (suc zero) h x = ExprNode zero (λ h x. ⊥) (λ h x. ⊥) h x
 IsExpr (suc (suc depth)) h x = ExprNode (suc depth) (IsExpr (suc depth)) (IsExpr depth) h x
 
--- an expression, a statement and a block within a depth
+-- an expression, a statement, a block and what is in one, within a depth
 abbrev pub ExprWithin : ℕ → Expr → Type 0
 ExprWithin depth x = IsExpr depth false x
 
@@ -282,6 +286,10 @@ StmtWithin (suc depth) x = IsStmt (suc depth) (IsExpr (suc depth)) (IsExpr depth
 unfoldable pub BlockWithin : ℕ → Block Body → Type 0
 BlockWithin zero b = IsBlock zero (λ h x. ⊥) (λ h x. ⊥) b
 BlockWithin (suc depth) b = IsBlock (suc depth) (IsExpr (suc depth)) (IsExpr depth) b
+
+unfoldable pub BodyWithin : ℕ → Body → Type 0
+BodyWithin zero b = IsBody zero (λ h x. ⊥) (λ h x. ⊥) b
+BodyWithin (suc depth) b = IsBody (suc depth) (IsExpr (suc depth)) (IsExpr depth) b
 
 -- a statement as a fragment: without its last `;`
 unfoldable pub IsFragmentStmt : ℕ → Stmt → Type 0

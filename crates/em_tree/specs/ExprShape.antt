@@ -39,6 +39,10 @@ unary = 13
 abbrev pub assignment : ℕ
 assignment = 3
 
+-- closures and `return` take all that follows
+abbrev pub takes_all : ℕ
+takes_all = 2
+
 -- what stands for itself binds as tightly as may be, a group too
 abbrev pub strength_of : Expr-F Expr Stmt Body ElseIf → ℕ
 strength_of (Expr-F.MethodCall receiver dot name open' arguments close) = postfix
@@ -51,9 +55,9 @@ strength_of (Expr-F.Ref amp word_mut operand) = unary
 strength_of (Expr-F.RefRef amps word_mut operand) = unary
 strength_of (Expr-F.Binary left operator right) = operator_strength operator
 strength_of (Expr-F.Assign left operator right) = assignment
-strength_of (Expr-F.Closure word_move head body) = 2
-strength_of (Expr-F.ClosureTo word_move head arrow output body) = 2
-strength_of (Expr-F.Return word value) = 2
+strength_of (Expr-F.Closure word_move head body) = takes_all
+strength_of (Expr-F.ClosureTo word_move head arrow output body) = takes_all
+strength_of (Expr-F.Return word value) = takes_all
 strength_of _ = 15
 
 abbrev pub strength : Expr → ℕ
@@ -62,7 +66,7 @@ strength x = strength_of (out-Expr x)
 -- ---- the left end
 
 -- what an expression begins with: nothing special; it is itself a block, an `if`, a `match` or a loop; it is itself a macro call with
--- braces, or with other delimiters; it goes on behind one of these, but for a `.`
+-- braces, or with other delimiters; it goes on, otherwise than by a `.`, behind a block or behind a call with braces
 pub data Edge : Type 0 where
   Fine : Edge
   BlockLike : Edge
@@ -107,10 +111,6 @@ edge_step _ = Fine
 
 unfoldable pub edge : Expr → Edge
 edge x = fold-Expr Edge (Unit {0}) (Unit {0}) (Unit {0}) edge_step (λ s. tt) (λ b. tt) (λ e. tt) x
-
-abbrev pub is_block_like : Edge → Bool
-is_block_like BlockLike = true
-is_block_like _ = false
 
 -- ---- the right end
 

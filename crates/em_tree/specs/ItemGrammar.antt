@@ -1,11 +1,12 @@
 -- Items and files (Reference, "Items"), as far as the profile has them.
-use Rattle.std.specs.Prelude.{◌≡◌, ◌⊎◌, ℕ, zero, suc, Bool, true, false, ◌&&◌, List, [], ◌∷◌, codes, Option, Some, None}
+use Rattle.std.specs.Prelude.{◌≡◌, ◌⊎◌, ℕ, zero, suc, Bool, true, false, ◌&&◌, List, [], ◌∷◌, ◌++◌, codes, Option, Some, None}
 use Rattle.em_base.specs.declared.token.Token.{Token}
 use Rattle.em_tree.specs.declared.parts.Listed.{Listed}
 use Rattle.em_tree.specs.declared.piece.Delimited.{Delimited}
 use Rattle.em_tree.specs.declared.piece.FragmentKind.TheVariants as f
 use Rattle.em_tree.specs.declared.piece.Group.{Group}
 use Rattle.em_tree.specs.declared.piece.Piece.{Piece}
+use Rattle.em_tree.specs.declared.piece.Piece.TheVariants as p
 use Rattle.em_tree.specs.declared.literal.Literal.{Literal}
 use Rattle.em_tree.specs.declared.types.Path.{Path}
 use Rattle.em_tree.specs.declared.types.Output.{Output}
@@ -45,16 +46,22 @@ use Rattle.em_tree.specs.declared.item.ItemBody.TheVariants as body
 use Rattle.em_tree.specs.declared.item.Item.{Item, out-Item}
 use Rattle.em_tree.specs.declared.item.Item.TheOpen.{Item-F}
 use Rattle.em_tree.specs.declared.item.FileTree.{FileTree}
-use Rattle.em_tree.specs.Parts.{item_parts}
+use Rattle.em_tree.specs.Parts.{each, meta_parts, item_parts}
 use Rattle.em_tree.specs.Starts.{kind_of, pieces_of, is_spelled}
 use Rattle.em_tree.specs.Tokens.{Is, IsOneOf, Maybe, Each, Commas, Name, IsDelimited, Ends, before_2018}
 use Rattle.em_tree.specs.Yields.{piece, whole, as_it_is, opened}
-use Rattle.em_tree.specs.PathGrammar.{IsLiteral, AreSegments, TypeWithin, PathWithin, IsType, IsOutput, type_pieces}
+use Rattle.em_tree.specs.PathGrammar.{IsLiteral, AreSegments, TypeWithin, PathWithin, IsType, IsOutput, path_pieces, type_pieces}
 use Rattle.em_tree.specs.PatGrammar.{IsPat}
 use Rattle.em_tree.specs.ExprGrammar.{BlockWithin, IsMacro}
 
 abbrev pub item_pieces : Item → List Piece
 item_pieces x = item_parts piece whole as_it_is x
+
+abbrev pub file_attribute_pieces : FileAttribute → List Piece
+file_attribute_pieces a = piece a.hash ++ (piece a.bang ++ (piece a.open ++ (meta_parts piece whole as_it_is a.meta ++ piece a.close)))
+
+abbrev pub file_pieces : FileTree → List Piece
+file_pieces x = each file_attribute_pieces x.attributes ++ each item_pieces x.items
 
 -- ---- attributes and visibility
 
@@ -69,6 +76,7 @@ IsInput input.Nothing = Unit {0}
 IsInput (input.List d) = Is (codes "(") d.open × IsDelimited d
 IsInput (input.Value equals l) = Is (codes "=") equals × IsLiteral false l
 
+-- (Reference, "Attributes")
 abbrev pub IsMeta : Meta → Type 0
 IsMeta m = IsOneOf attributes m.name × IsInput m.input
 
@@ -81,6 +89,7 @@ IsFileAttribute a = Is (codes "#") a.hash × Is (codes "!") a.bang × Is (codes 
 abbrev pub IsScope : VisScope → Type 0
 IsScope s = Is (codes "(") s.open × IsOneOf (codes "crate" ∷ codes "self" ∷ codes "super" ∷ []) s.module × Is (codes ")") s.close
 
+-- (Reference, "Visibility and privacy")
 abbrev pub IsVis : Vis → Type 0
 IsVis v = Is (codes "pub") v.word × Maybe IsScope v.scope
 
@@ -89,32 +98,34 @@ IsVis v = Is (codes "pub") v.word × Maybe IsScope v.scope
 abbrev pub IsRename : Rename → Type 0
 IsRename r = Is (codes "as") r.word × Name r.name
 
+-- (Reference, "Use declarations")
 abbrev pub IsUseName : UseName → Type 0
 IsUseName u = (Name u.name ⊎ Is (codes "self") u.name) × Maybe IsRename u.rename
 
 -- ---- functions
 
--- the types, and what they owe, within a depth: a result type
+-- a result type, within a depth
 unfoldable pub OutputWithin : ℕ → Output → Type 0
 OutputWithin zero o = IsOutput (λ owes x. ⊥) (λ owes x. ⊥) false o
 OutputWithin (suc depth) o = IsOutput (IsType (suc depth)) (IsType depth) false o
 
--- `self`, `mut self`, `&self` or `&mut self`
+-- `self`, `mut self`, `&self` or `&mut self` (Reference, "Associated items")
 abbrev pub IsReceiver : SelfParam → Type 0
 IsReceiver r = Maybe (Is (codes "&")) r.amp × Maybe (Is (codes "mut")) r.word_mut × Is (codes "self") r.word
 
--- the tokens of a receiver that is a type too
-abbrev pub is_receiver : List Token → Bool
-is_receiver (a ∷ []) = is_spelled (codes "self" ∷ []) a
-is_receiver (a ∷ b ∷ []) = is_spelled (codes "&" ∷ []) a && is_spelled (codes "self" ∷ []) b
-is_receiver (a ∷ b ∷ c ∷ []) = is_spelled (codes "&" ∷ []) a && (is_spelled (codes "mut" ∷ []) b && is_spelled (codes "self" ∷ []) c)
+-- the pieces of a receiver that are those of a type too. A fragment is no receiver
+abbrev pub is_receiver : List Piece → Bool
+is_receiver (p.Token a ∷ []) = is_spelled (codes "self" ∷ []) a
+is_receiver (p.Token a ∷ p.Token b ∷ []) = is_spelled (codes "&" ∷ []) a && is_spelled (codes "self" ∷ []) b
+is_receiver (p.Token a ∷ p.Token b ∷ p.Token c ∷ []) = is_spelled (codes "&" ∷ []) a && (is_spelled (codes "mut" ∷ []) b && is_spelled (codes "self" ∷ []) c)
 is_receiver _ = false
 
 abbrev pub StartsBefore2018 : List Token → Type 0
 StartsBefore2018 [] = ⊥
 StartsBefore2018 (t ∷ ts) = before_2018 t.edition ≡ true
 
--- a parameter; in a trait, in text of 2015, its pattern may lack (Edition Guide, "No more anonymous trait parameters")
+-- a parameter; in a trait, in text of 2015, its pattern may lack (Edition Guide, "Anonymous trait
+-- function parameters deprecated"; Reference, "Traits", "Parameter patterns")
 abbrev pub IsParam : ℕ → (in_trait : Bool) → Param → Type 0
 IsParam depth in_trait (param.Typed pat colon ty) = IsPat depth pat × Is (codes ":") colon × TypeWithin depth ty
 IsParam depth in_trait (param.Anonymous ty) = (in_trait ≡ true) × TypeWithin depth ty × StartsBefore2018 (opened (type_pieces ty))
@@ -127,13 +138,13 @@ EndsReceiver comma (x ∷ params) = (t : Token) × (comma ≡ Some t) × Is (cod
 -- a first parameter that has the form of a receiver is one
 abbrev pub IsNoReceiver : List (Listed Param) → Type 0
 IsNoReceiver [] = Unit {0}
-IsNoReceiver (x ∷ params) = (ty : TypeTree) → x.item ≡ param.Anonymous ty → is_receiver (opened (type_pieces ty)) ≡ false
+IsNoReceiver (x ∷ params) = (ty : TypeTree) → x.item ≡ param.Anonymous ty → is_receiver (type_pieces ty) ≡ false
 
 abbrev pub BeginsParams : Option (Listed SelfParam) → List (Listed Param) → Type 0
 BeginsParams None params = IsNoReceiver params
 BeginsParams (Some r) params = IsReceiver r.item × EndsReceiver r.comma params
 
--- the head of a function
+-- the head of a function (Reference, "Functions")
 pub record IsSig (depth : ℕ) (in_trait : Bool) (s : Sig) : Type 0 where
   pub word : Is (codes "fn") s.word
   pub name : Name s.name
@@ -153,8 +164,9 @@ IsTraitFn depth x = IsSig depth true x.sig × IsTraitBody depth x.body
 abbrev pub IsImplFn : ℕ → ImplFn → Type 0
 IsImplFn depth x = Maybe IsVis x.vis × IsSig depth false x.sig × BlockWithin depth x.body
 
+-- the trait of an impl: not the word `dyn` alone, which before `for` is the keyword (Reference, "Weak keywords")
 abbrev pub IsImplTrait : ℕ → ImplTrait → Type 0
-IsImplTrait depth x = PathWithin depth x.path × Is (codes "for") x.word_for
+IsImplTrait depth x = PathWithin depth x.path × Is (codes "for") x.word_for × ((t : Token) → path_pieces x.path ≡ p.Token t ∷ [] → Is (codes "dyn") t → ⊥)
 
 -- ---- structs and enums
 

@@ -32,7 +32,7 @@ top_pieces x = top_pat_parts piece whole as_it_is x
 abbrev pub IsDots : Token → Type 0
 IsDots t = Is (codes "..=") t ⊎ (Is (codes "...") t × (before_2021 t.edition ≡ true))
 
--- the path isn't one name alone, which binds a variable
+-- the path isn't one name token alone, which binds a variable (a fragment of the kind `path` is a path)
 abbrev pub IsNoName : Path → Type 0
 IsNoName x = (t : Token) → path_pieces x ≡ p.Token t ∷ [] → Name t → ⊥
 
@@ -47,7 +47,7 @@ module _ (Inner : Pat → Type 0) (IsPath : Path → Type 0) where
   IsField (field.Full name colon x) = Name name × Is (codes ":") colon × Inner x
   IsField (field.Short word_ref word_mut name) = Maybe (Is (codes "ref")) word_ref × Maybe (Is (codes "mut")) word_mut × Name name
 
-  -- `..` stands behind the last field, whose comma is there
+  -- `..` stands behind the last field, whose comma is there (Reference, "Struct patterns")
   abbrev pub IsRest : List (Listed (FieldPat Pat)) → Option Token → Type 0
   IsRest fields None = Unit {0}
   IsRest fields (Some dots) = Is (codes "..") dots × HasCommas fields

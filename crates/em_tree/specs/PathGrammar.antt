@@ -20,7 +20,7 @@ use Rattle.em_tree.specs.declared.types.TypeTree.{TypeTree, out-TypeTree}
 use Rattle.em_tree.specs.declared.types.Bound.TheOpen.{Bound-F, Output-F, Path-F, TypeTree-F, Qualified-F}
 use Rattle.em_tree.specs.Parts.{literal_parts, path_parts, type_tree_parts, bound_parts}
 use Rattle.em_tree.specs.Starts.{kind_of, pieces_of}
-use Rattle.em_tree.specs.Tokens.{Is, IsOneOf, Maybe, Each, Commas, Name, IsLiteralToken, IsInt, before_2018, before_2021}
+use Rattle.em_tree.specs.Tokens.{Is, IsOneOf, Maybe, Each, Commas, Name, IsLiteralToken, IsInt, before_2021}
 use Rattle.em_tree.specs.Yields.{piece, whole, as_it_is, opened}
 
 -- ---- yields
@@ -36,7 +36,7 @@ type_pieces x = type_tree_parts piece whole as_it_is x
 
 -- ---- literals
 
--- a literal, with a sign or not; a group of the kind `literal` is what its pieces are
+-- a literal, where `signed` says that a `-` may stand before it; a group of the kind `literal` is what its pieces are
 pub data IsLiteral : (signed : Bool) → Literal → Type 0 where
   token : {signed : Bool} {x : Literal} {t : Token} → out-Literal x ≡ Literal-F.Token t → IsLiteralToken t → IsLiteral signed x
   negative : {x y : Literal} {minus : Token} → out-Literal x ≡ Literal-F.Negative minus y → Is (codes "-") minus → IsLiteral false y → IsLiteral true x
@@ -80,15 +80,16 @@ module _ (Inner : TypeTree → Type 0) where
 
 -- ---- types
 
--- what may directly follow the word `dyn` of 2015 so that it is the keyword
+-- what a bound begins with behind the word `dyn` of 2015: a path that begins with neither `::` nor `<` (Reference, "Weak
+-- keywords"). Before a lifetime, `?`, `for` and `(` it is the keyword too, but no bound of the profile begins so
 abbrev pub FollowsDyn : List Piece → Type 0
 FollowsDyn [] = ⊥
 FollowsDyn (p.Token t ∷ ys) = Name t ⊎ IsOneOf (codes "crate" ∷ codes "self" ∷ codes "super" ∷ codes "Self" ∷ codes "$" ∷ []) t
 FollowsDyn (p.Group g ∷ ys) = kind_of g ≡ f.Path
 
--- the keyword `dyn` before these pieces: from 2018 on always, in 2015 by what follows it
+-- the keyword `dyn` before these pieces: from 2018 on always, in 2015, where it is a name, by what follows it
 abbrev pub IsDyn : Token → List Piece → Type 0
-IsDyn word ys = Is (codes "dyn") word × (before_2018 word.edition ≡ true → FollowsDyn ys)
+IsDyn word ys = Is (codes "dyn") word × (Name word → FollowsDyn ys)
 
 -- the first token of pieces with their groups opened is older than 2021
 abbrev pub StartsBefore2021 : List Token → Type 0
@@ -141,7 +142,7 @@ module _ (Inner Deeper : (owes : Bool) → TypeTree → Type 0) where
         → StartsBefore2021 (opened (type_pieces x)) → ((t : Token) → path_pieces y ≡ p.Token t ∷ [] → Is (codes "dyn") t → ⊥) → TypeNode owes x
     group : {x y : TypeTree} {g : Group} → out-TypeTree x ≡ TypeTree-F.TypeTree::Group g y → kind_of g ≡ f.Ty → pieces_of g ≡ type_pieces y → TypeNode false y → TypeNode false x
 
--- the types that nest no deeper than the number
+-- the types that nest no deeper than the number. `str` is a path of one name
 unfoldable pub IsType : ℕ → Bool → TypeTree → Type 0
 IsType zero owes x = ⊥
 IsType (suc zero) owes x = TypeNode (λ owes x. ⊥) (λ owes x. ⊥) owes x

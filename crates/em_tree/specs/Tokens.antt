@@ -5,6 +5,7 @@ use Rattle.em_base.specs.declared.edition.Edition.TheVariants.{E2015, E2018, E20
 use Rattle.em_base.specs.declared.token.Token.{Token}
 use Rattle.em_base.specs.declared.token.TokenKind.{TokenKind}
 use Rattle.em_base.specs.declared.token.TokenKind.TheVariants as t
+use Rattle.em_base.specs.Words.{strict}
 use Rattle.em_tree.specs.declared.parts.Listed.{Listed}
 use Rattle.em_tree.specs.declared.piece.Delimited.{Delimited}
 use Rattle.em_tree.specs.declared.piece.Piece.{Piece}
@@ -35,9 +36,22 @@ Commas P [] = Unit {0}
 Commas P (a ∷ []) = P a.item × Maybe (Is (codes ",")) a.comma
 Commas P (a ∷ b ∷ rest) = P a.item × ((comma : Token) × (a.comma ≡ Some comma) × Is (codes ",") comma) × Commas P (b ∷ rest)
 
+-- punctuation, with `_`, and delimiters (Reference, "Punctuation" and "Delimiters")
+abbrev pub signs : List (List ℕ)
+signs =
+    codes "+" ∷ codes "-" ∷ codes "*" ∷ codes "/" ∷ codes "%" ∷ codes "^" ∷ codes "!" ∷ codes "&" ∷ codes "|" ∷ codes "&&" ∷ codes "||" ∷ codes "<<"
+    ∷ codes ">>" ∷ codes "+=" ∷ codes "-=" ∷ codes "*=" ∷ codes "/=" ∷ codes "%=" ∷ codes "^=" ∷ codes "&=" ∷ codes "|=" ∷ codes "<<=" ∷ codes ">>="
+    ∷ codes "=" ∷ codes "==" ∷ codes "!=" ∷ codes ">" ∷ codes "<" ∷ codes ">=" ∷ codes "<=" ∷ codes "@" ∷ codes "_" ∷ codes "." ∷ codes ".."
+    ∷ codes "..." ∷ codes "..=" ∷ codes "," ∷ codes ";" ∷ codes ":" ∷ codes "::" ∷ codes "->" ∷ codes "<-" ∷ codes "=>" ∷ codes "#" ∷ codes "$"
+    ∷ codes "?" ∷ codes "~" ∷ codes "(" ∷ codes ")" ∷ codes "[" ∷ codes "]" ∷ codes "{" ∷ codes "}" ∷ []
+
+-- the words and signs that the grammar writes out. A token so spelled is no name and no literal, whatever its kind says
+abbrev pub is_written : Token → Bool
+is_written t = is_spelled (strict ++ signs) t
+
 -- a name: an identifier that is raw or no keyword of its text's edition (Reference, "Identifiers" and "Keywords")
 abbrev pub Name : Token → Type 0
-Name t = is_name t ≡ true
+Name t = (is_name t && not (is_written t)) ≡ true
 
 -- the text of the token is older than 2018, and older than 2021
 abbrev pub before_2018 : Edition → Bool
@@ -54,10 +68,10 @@ int_kind _ = false
 
 -- a literal or `true` or `false` (Reference, "Literal expressions")
 abbrev pub IsLiteralToken : Token → Type 0
-IsLiteralToken t = (is_literal t || is_spelled (codes "true" ∷ codes "false" ∷ []) t) ≡ true
+IsLiteralToken t = ((is_literal t && not (is_written t)) || is_spelled (codes "true" ∷ codes "false" ∷ []) t) ≡ true
 
 abbrev pub IsInt : Token → Type 0
-IsInt t = int_kind t.kind ≡ true
+IsInt t = (int_kind t.kind && not (is_written t)) ≡ true
 
 -- an opening delimiter and the closing one that matches it
 pub data Match (open' close : Token) : Type 0 where
