@@ -6,3 +6,4 @@ mod Puts
 mod Opened
 mod Adds
 mod Edges
+pub mod GrammarLaws

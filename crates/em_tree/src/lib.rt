@@ -9,6 +9,7 @@ mod expr;
 mod first;
 mod fragment;
 mod item;
+mod laws;
 mod literal;
 mod node;
 mod parts;
@@ -35,6 +36,7 @@ pub use item::{
     MetaInput, Param, Rename, SelfParam, Sig, StructFields, TraitBody, TraitFn, TupleDecl, UseName,
     VariantDecl, VariantField, VariantFields, Vis, VisScope,
 };
+pub use laws::{block_has_body, empty_file_is_one, word_is_fragment};
 pub use literal::Literal;
 pub use node::Node;
 pub use parts::Listed;

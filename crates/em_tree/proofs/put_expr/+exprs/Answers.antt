@@ -156,10 +156,10 @@ add_branch-returns t c =
 pub add_expr-returns-in-Some : goal.add_expr-returns-in-Some
 add_expr-returns-in-Some t c =
     adds_expr_if c.args.out.now c.token-in-If.new.self c.add_condition.new.out c.add_block-in-If.new.out c.add_branches.new.out c.token_if.new.self c.add_block-in-Some.new.out c.args.part.now c.in-If.word c.in-If.condition c.in-If.then c.in-If.branches c.in-If.word_else c.in-If.otherwise c.in-If.is (search rules) (search rules) (search rules) (search rules) (search rules)
-      (adds_as c.token_if.new.self c.add_block-in-Some.new.out (maybe (block_parts one inside opened (body_parts one inside opened)) c.in-If.otherwise) (block_parts one inside opened (body_parts one inside opened) c.get-in-Some.result.now)
-        (ap (maybe (block_parts one inside opened (body_parts one inside opened))) c.in-Some.is ∙ ap (block_parts one inside opened (body_parts one inside opened)) (sym c.get-in-Some.ensures)) c.add_block-in-Some.ensures)
+    (adds_as c.token_if.new.self c.add_block-in-Some.new.out (maybe (block_parts one inside opened (body_parts one inside opened)) c.in-If.otherwise) (block_parts one inside opened (body_parts one inside opened) c.get-in-Some.result.now)
+    (ap (maybe (block_parts one inside opened (body_parts one inside opened))) c.in-Some.is ∙ ap (block_parts one inside opened (body_parts one inside opened)) (sym c.get-in-Some.ensures)) c.add_block-in-Some.ensures)
 
 pub add_expr-returns-in_default : goal.add_expr-returns-in_default
 add_expr-returns-in_default t c =
     adds_expr_if c.args.out.now c.token-in-If.new.self c.add_condition.new.out c.add_block-in-If.new.out c.add_branches.new.out c.token_if.new.self c.token_if.new.self c.args.part.now c.in-If.word c.in-If.condition c.in-If.then c.in-If.branches c.in-If.word_else c.in-If.otherwise c.in-If.is (search rules) (search rules) (search rules) (search rules) (search rules)
-      (adds_as c.token_if.new.self c.token_if.new.self (maybe (block_parts one inside opened (body_parts one inside opened)) c.in-If.otherwise) [] (ap (maybe (block_parts one inside opened (body_parts one inside opened))) c.in_default.is) (adds0 c.token_if.new.self))
+    (adds_as c.token_if.new.self c.token_if.new.self (maybe (block_parts one inside opened (body_parts one inside opened)) c.in-If.otherwise) [] (ap (maybe (block_parts one inside opened (body_parts one inside opened))) c.in_default.is) (adds0 c.token_if.new.self))
