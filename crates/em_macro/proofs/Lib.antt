@@ -1,0 +1,4 @@
+pub mod Start
+pub mod Sound
+pub mod Complete
+pub mod Stops
