@@ -4,7 +4,7 @@ use Rattle.std.proofs.Common.{◌≡◌, ℕ, zero, suc, ◌+◌, ◌≤◌, ◌
 use Rattle.em_macro.specs.declared.rules.Specifier.{Specifier}
 use Rattle.em_base.specs.declared.token.Token.{Token}
 use Rattle.em_tree.specs.declared.piece.Piece.TheVariants as p
-use Rattle.em_tree.specs.declared.fragment.Fragment.{Fragment}
+use Rattle.em_macro.specs.declared.matched.Taken.{Taken}
 use Rattle.em_macro.specs.declared.rules.Matcher.{Matcher, out-Matcher}
 use Rattle.em_macro.specs.declared.rules.Matcher.TheOpen.{Matcher-F}
 use Rattle.em_tree.specs.Starts.{Pieces}
@@ -36,7 +36,7 @@ after_next t [] r h = absurd h
 after_next t (p.Token u ∷ i) r h = (h.0, ap (λ l. suc (length l)) h.1)
 after_next t (x ∷ i) r h = absurd h
 
-pub taken_starts : (reads : Reading) → Owes reads → (kind : Specifier) (i r : Pieces) (f : Fragment) → reads kind i ≡ Takes f r → starts_at kind i ≡ true
+pub taken_starts : (reads : Reading) → Owes reads → (kind : Specifier) (i r : Pieces) (f : Taken) → reads kind i ≡ Takes f r → starts_at kind i ≡ true
 taken_starts reads owes kind i r f is = owes.1 kind i ∙ ap (λ o. not (cannot_start o)) is
 
 module _ (reads : Reading) (owes : Owes reads) (vars : Matchers → List Name) (empty : Matchers → Bool) (starts : Matchers → Pieces → Bool)

@@ -4,7 +4,7 @@ use Rattle.std.proofs.Common.{◌≡◌, ℕ, zero, suc, ◌+◌, ◌≤◌, ◌
 use Rattle.em_macro.specs.declared.rules.Specifier.{Specifier}
 use Rattle.em_base.specs.declared.token.Token.{Token}
 use Rattle.em_tree.specs.declared.piece.Piece.TheVariants as p
-use Rattle.em_tree.specs.declared.fragment.Fragment.{Fragment}
+use Rattle.em_macro.specs.declared.matched.Taken.{Taken}
 use Rattle.em_macro.specs.declared.rules.Matcher.{Matcher, out-Matcher}
 use Rattle.em_macro.specs.declared.rules.Matcher.TheOpen.{Matcher-F}
 use Rattle.em_tree.specs.Starts.{Pieces}

@@ -1,2 +1,5 @@
 pub mod Match
 pub mod Run
+pub mod Given
+pub mod Choose
+pub mod Write

@@ -5,7 +5,7 @@ use Rattle.em_base.specs.declared.token.Token.{Token}
 use Rattle.em_base.specs.declared.token.TokenKind.{TokenKind}
 use Rattle.em_base.specs.declared.token.TokenKind.TheVariants as t
 use Rattle.em_tree.specs.declared.piece.Piece.TheVariants as p
-use Rattle.em_tree.specs.declared.fragment.Fragment.{Fragment}
+use Rattle.em_macro.specs.declared.matched.Taken.{Taken}
 use Rattle.em_tree.specs.Starts.{Pieces, starts}
 use Rattle.em_macro.specs.declared.rules.Specifier.{Specifier}
 use Rattle.em_macro.specs.declared.rules.Matcher.{Matcher, out-Matcher}
@@ -30,7 +30,7 @@ Node = Matcher-F Matcher
 -- what stands at the front of the pieces: the longest prefix of a kind and what is left; no piece that can start the kind;
 -- one that can, and no prefix of the kind; or a prefix that nests too deep
 pub data Outcome : Type 0 where
-  Takes : Fragment → Pieces → Outcome
+  Takes : Taken → Pieces → Outcome
   CannotStart : Outcome
   NoPrefix : Outcome
   TooDeep : Outcome
@@ -120,7 +120,7 @@ module _ (reads : Reading) (vars : Matchers → List Name) (Inner : Matchers →
   -- one node of a matcher takes the pieces between the first list and the last
   abbrev pub MatchNode : Node → Pieces → Bindings → Pieces → Type 0
   MatchNode (Matcher-F.Token t) i bs r = After t i r × (bs ≡ [])
-  MatchNode (Matcher-F.Fragment n kind) i bs r = (f : Fragment) × (reads kind i ≡ Takes f r) × (bs ≡ binding n (b.One f) ∷ [])
+  MatchNode (Matcher-F.Fragment n kind) i bs r = (f : Taken) × (reads kind i ≡ Takes f r) × (bs ≡ binding n (b.One f) ∷ [])
   MatchNode (Matcher-F.Delimited o body c) i bs r = (j : Pieces) × (k : Pieces) × After o i j × Inner body j bs k × After c k r
   MatchNode (Matcher-F.Repeat body sep plus) i bs r =
       ((plus ≡ false) × (i ≡ r) × (bs ≡ gather (vars body) [])) ⊎ ((cs : List Bindings) × Copies body sep i cs r × (bs ≡ gather (vars body) cs))
@@ -242,7 +242,7 @@ at_end (x ∷ i) = false
 
 -- a fragment is never empty
 abbrev pub NeverEmpty : Reading → Type 0
-NeverEmpty reads = (kind : Specifier) (i r : Pieces) (f : Fragment) → reads kind i ≡ Takes f r → length r < length i
+NeverEmpty reads = (kind : Specifier) (i r : Pieces) (f : Taken) → reads kind i ≡ Takes f r → length r < length i
 
 -- where the next piece starts none of a kind, no fragment of the kind is read, and it isn't broken either; elsewhere it is read or broken
 abbrev pub cannot_start : Outcome → Bool

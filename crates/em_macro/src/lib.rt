@@ -2,8 +2,22 @@
 //! example").
 #![tactic(auto)]
 
+mod binding;
+mod choosing;
+mod copying;
+mod error;
+mod fragments;
 mod matched;
-mod rules;
+mod matching;
+mod put;
 
-pub use matched::{Binding, Bound, Matched};
+mod rules;
+mod starting;
+mod tokens;
+
+pub use choosing::{match_call, one_match};
+pub use copying::transcribe;
+pub use error::{CopyError, MacroError, RulesError};
+pub use fragments::Fragments;
+pub use matched::{Binding, Bound, Matched, Taken};
 pub use rules::{Arm, Matcher, Rules, Specifier, Transcriber};

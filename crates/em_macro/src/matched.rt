@@ -1,11 +1,35 @@
-use em_base::Name;
-use em_tree::{Fragment, Shared};
+ghost use Rattle.std.specs.Prelude.{◌≡◌, IfOk};
+
+use em_base::{Edition, Name, NoMemory};
+use em_tree::{FragmentKind, PieceList, Shared};
 use sqlite_items::Items;
+
+/// A fragment that a matcher read: its kind, the edition of the word that named the kind, and its pieces, which aren't
+/// copied. Its tree is that of the pieces.
+#[derive(Drop)]
+pub struct Taken {
+    pub kind: FragmentKind,
+    pub edition: Edition,
+    pub pieces: Shared<PieceList>,
+}
+
+impl Taken {
+    /// The same fragment, whose pieces aren't copied.
+    pub fn share(&self) -> Result<Taken, NoMemory>
+        ensures { IfOk result (λ t. t ≡ self.now) }
+    {
+        Ok(Taken {
+            kind: self.kind,
+            edition: self.edition,
+            pieces: self.pieces.share()?,
+        })
+    }
+}
 
 /// What a variable is bound to: a fragment, or what each copy of a repetition bound it to.
 #[derive(Drop)]
 pub enum Bound {
-    One(Shared<Fragment>),
+    One(Taken),
     Many(Shared<Items<Bound>>),
 }
 
@@ -22,5 +46,5 @@ pub struct Binding {
 pub struct Matched {
     pub arm: u32,
     pub bindings: Items<Binding>,
-    pub tried: Items<Shared<Fragment>>,
+    pub tried: Items<Taken>,
 }
