@@ -1,6 +1,7 @@
 -- How many copies several names ask for together.
 use Rattle.std.proofs.Common.{◌≡◌, ℕ, ◌+◌, ◌<◌, nat_eq, Bool, true, false, if◌then◌else◌, ◌⊎◌, inl, inr, List, [], ◌∷◌, length, drop, get_or, refl, sym, ◌∙◌, ap, subst, arith}
 use Rattle.std.proofs.lemmas.Bool.{cases_Bool}
+use Rattle.std.proofs.lemmas.Bool.Decides.{Decides-eqb}
 use Rattle.em_macro.specs.declared.matched.Bound.{out-Bound}
 use Rattle.em_macro.specs.declared.copying.Steps.{Steps}
 use Rattle.em_macro.specs.declared.copying.Steps.TheVariants as st
@@ -9,10 +10,10 @@ use Rattle.em_macro.specs.Write.{agree, steps, steps_of}
 use Rattle.em_macro.proofs.Turns.{next_item}
 
 nat_same : (n m : ℕ) → nat_eq n m ≡ true → n ≡ m
-nat_same n m h = omega (arith, h)
+nat_same n m h = (Decides-eqb n m).0 h
 
 same_nat : (n : ℕ) → nat_eq n n ≡ true
-same_nat n = refl
+same_nat n = (Decides-eqb n n).1 refl
 
 pub agree_any : (x : Steps) → agree x st.Any ≡ x
 agree_any st.Any = refl

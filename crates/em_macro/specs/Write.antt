@@ -26,7 +26,7 @@ use Rattle.em_macro.specs.Given.{pieces_in}
 use Rattle.em_macro.specs.Choose.{levels}
 
 abbrev pub Transcribers : Type 0
-Transcribers = Transcribers
+Transcribers = List Transcriber
 
 -- a token that the transcriber wrote: it keeps its edition and gets a mark more
 abbrev pub marked : Mark → Token → Token

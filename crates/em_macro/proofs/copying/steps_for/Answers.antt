@@ -9,8 +9,8 @@ use Rattle.em_macro.proofs.copying.steps_for.Goals as goal
 
 pub loop-name-preserved : goal.loop-name-preserved
 loop-name-preserved c =
-    let joined : c.agree.result ≡ agree c.loop-name.found (steps_of (out-Bound (bound_to c.name-item.result c.args.bindings.now))) = first_of (search rules, grind (arith, common_steps)) in
-    c.loop-name.invariant ∙ steps_go c.args.names.now c.args.bindings.now c.loop-name.name-index c.name-item.result c.loop-name.found c.agree.result (search rules) (search rules) joined
+    let joined : c.agree-found.result ≡ agree c.loop-name.found (steps_of (out-Bound (bound_to c.name-item.result c.args.bindings.now))) = first_of (search rules, grind (arith, common_steps)) in
+    c.loop-name.invariant ∙ steps_go c.args.names.now c.args.bindings.now c.loop-name.name-index c.name-item.result c.loop-name.found c.agree-found.result (search rules) (search rules) joined
 
 pub returns : goal.returns
 returns c =
