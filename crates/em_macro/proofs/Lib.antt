@@ -9,3 +9,5 @@ pub mod Gathering
 pub mod Arms
 pub mod WriteTurns
 pub mod Agreeing
+pub mod Within
+pub mod Logging

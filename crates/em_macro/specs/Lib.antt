@@ -3,3 +3,4 @@ pub mod Run
 pub mod Given
 pub mod Choose
 pub mod Write
+pub mod Reads
