@@ -11,3 +11,4 @@ pub mod WriteTurns
 pub mod Agreeing
 pub mod Within
 pub mod Logging
+pub mod Putting

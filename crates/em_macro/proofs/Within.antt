@@ -44,7 +44,7 @@ above_append low (x ∷ xs) ys a b = (a.0, above_append low xs ys a.1 b)
 
 within_then : {A B : Type 0} (i : Pieces) (m : Out A) (f : A → Pieces → Out B) (g : A → Pieces → List Read) (xs : List Read) → Within i m xs
     → ((a : A) (r : Pieces) → Within r (f a r) (g a r)) → Within i (and_then m f) (xs ++ after m g)
-within_then i (Done a r) f g xs h k = go (f a r) (k a r)
+within_then {B = B} i (Done a r) f g xs h k = go (f a r) (k a r)
   where
     go : (o : Out B) → Within r o (g a r) → Within i o (xs ++ g a r)
     go (Done b s) w = (falls_append (suc (length i)) (length r) xs (g a r) h.0 h.1 w.0 (omega (arith, h.2)),
@@ -52,22 +52,22 @@ within_then i (Done a r) f g xs h k = go (f a r) (k a r)
     go Fails w = falls_append (suc (length i)) (length r) xs (g a r) h.0 h.1 w (omega (arith, h.2))
     go Breaks w = falls_append (suc (length i)) (length r) xs (g a r) h.0 h.1 w (omega (arith, h.2))
     go Deep w = falls_append (suc (length i)) (length r) xs (g a r) h.0 h.1 w (omega (arith, h.2))
-within_then i Fails f g xs h k = falls_end (suc (length i)) xs h
-within_then i Breaks f g xs h k = falls_end (suc (length i)) xs h
-within_then i Deep f g xs h k = falls_end (suc (length i)) xs h
+within_then {B = B} i Fails f g xs h k = falls_end (suc (length i)) xs h
+within_then {B = B} i Breaks f g xs h k = falls_end (suc (length i)) xs h
+within_then {B = B} i Deep f g xs h k = falls_end (suc (length i)) xs h
 
 -- nothing more is read
 within_end : {A B : Type 0} (i : Pieces) (m : Out A) (f : A → Pieces → Out B) (xs : List Read) → Within i m xs → ((a : A) (r : Pieces) → Within r (f a r) []) → Within i (and_then m f) xs
-within_end i (Done a r) f xs h k = go (f a r) (k a r)
+within_end {B = B} i (Done a r) f xs h k = go (f a r) (k a r)
   where
     go : (o : Out B) → Within r o [] → Within i o xs
     go (Done b s) w = (h.0, above_less (length s) (length r) xs w.2 h.1, omega (arith, h.2, w.2))
     go Fails w = h.0
     go Breaks w = h.0
     go Deep w = h.0
-within_end i Fails f xs h k = h
-within_end i Breaks f xs h k = h
-within_end i Deep f xs h k = h
+within_end {B = B} i Fails f xs h k = h
+within_end {B = B} i Breaks f xs h k = h
+within_end {B = B} i Deep f xs h k = h
 
 within_more : {A : Type 0} (i k : Pieces) (m : Out A) (xs : List Read) → length k ≤ length i → Within k m xs → Within i m xs
 within_more i k (Done a r) xs h w = (falls_more (suc (length k)) (suc (length i)) xs (omega (arith, h)) w.0, w.1, omega (arith, h, w.2))

@@ -1,11 +1,13 @@
 -- Which fragments an arm reads: everything before them matched, and the pieces there have a prefix of their kind.
-use Rattle.std.specs.Prelude.{◌≡◌, ℕ, zero, suc, ◌<◌, ◌⊎◌, ◌↔◌, ◌||◌, Bool, true, false, if◌then◌else◌, List, [], ◌∷◌, ◌++◌, length, map, slice_index_or, Option}
+use Rattle.std.specs.Prelude.{◌≡◌, ℕ, zero, suc, ◌<◌, ◌⊎◌, ◌↔◌, ◌||◌, Bool, true, false, if◌then◌else◌, List, [], ◌∷◌, ◌++◌, length, map, slice_index_or, Option, Result, Ok, Err}
 use Rattle.em_base.specs.declared.token.Token.{Token}
 use Rattle.em_macro.specs.declared.rules.Specifier.{Specifier}
 use Rattle.em_macro.specs.declared.rules.Arm.{Arm}
 use Rattle.em_macro.specs.declared.rules.Matcher.{Matcher, out-Matcher}
 use Rattle.em_macro.specs.declared.rules.Matcher.TheOpen.{Matcher-F}
 use Rattle.em_macro.specs.declared.matched.Taken.{Taken}
+use Rattle.em_macro.specs.declared.error.Stop.{Stop}
+use Rattle.em_macro.specs.declared.error.Stop.TheVariants as s
 use Rattle.em_tree.specs.Starts.{Pieces}
 use Rattle.em_macro.specs.Match.{Name, Reading, Matchers, Bindings, Node, Outcome, Takes, CannotStart, NoPrefix, TooDeep, names, first, continues, Before}
 use Rattle.em_macro.specs.Run.{Out, Done, Fails, Breaks, Deep, token, behind, node, run}
@@ -24,6 +26,9 @@ abbrev pub Falling : ℕ → List Read → Type 0
 Falling most [] = Unit {0}
 Falling most (x ∷ xs) = (x.1 < most) × Falling x.1 xs
 
+abbrev pub fragments_of : List Read → List Taken
+fragments_of xs = map (λ x. x.0) xs
+
 module _ (reads : Reading) where
   abbrev pub Reads : ℕ → Matchers → Pieces → Read → Type 0
   Reads depth ms i x = (kind : Specifier) × (r : Pieces) × (z : Pieces) × Before reads depth ms i kind r × (reads kind r ≡ Takes x.0 z) × (x.1 ≡ length r)
@@ -31,7 +36,7 @@ module _ (reads : Reading) where
   -- these are the fragments that the arm reads, in the order of the pieces
   abbrev pub ReadBy : Arm → Pieces → List Taken → Type 0
   ReadBy arm i fs =
-      (xs : List Read) × (fs ≡ map (λ x. x.0) xs) × Falling (suc (length i)) xs × ((x : Read) → In x xs ↔ Reads levels arm.matcher i x)
+      (xs : List Read) × (fs ≡ fragments_of xs) × Falling (suc (length i)) xs × ((x : Read) → In x xs ↔ Reads levels arm.matcher i x)
 
   -- these are the fragments that so many arms read, in the order of arms and pieces
   abbrev pub ReadBefore : ℕ → List Arm → Pieces → List Taken → Type 0
@@ -72,3 +77,11 @@ module _ (reads : Reading) where
   unfoldable pub log : ℕ → Matchers → Pieces → List Read
   log zero ms i = []
   log (suc depth) ms i = log_all reads (names depth) (first depth) (run reads depth) (log depth) ms i
+
+-- the fragments that were read are put behind those before. Want of memory says nothing.
+abbrev pub Puts : {T : Type 0} → List Read → List Taken → Result T Stop → List Taken → Type 0
+Puts xs old (Ok t) new = new ≡ old ++ fragments_of xs
+Puts xs old (Err s.Fails) new = new ≡ old ++ fragments_of xs
+Puts xs old (Err s.Broken) new = new ≡ old ++ fragments_of xs
+Puts xs old (Err s.Depth) new = new ≡ old ++ fragments_of xs
+Puts xs old (Err s.NoMemory) new = Unit {0}

@@ -6,6 +6,8 @@ ghost use Rattle.em_macro.specs.declared.rules.Matcher.{out-Matcher};
 ghost use Rattle.em_macro.specs.Match as law;
 ghost use Rattle.em_macro.specs.Run as spec;
 ghost use Rattle.em_macro.specs.Given.{Gives};
+ghost use Rattle.em_macro.specs.Reads as told;
+ghost use Rattle.em_macro.specs.Reads.{Puts};
 
 use crate::binding::{gather, names};
 use crate::error::Stop;
@@ -40,7 +42,8 @@ fn fragment<F: Fragments>(
     at: &mut usize,
     read: &mut Items<Taken>,
 ) -> Result<Items<Binding>, Stop>
-    ensures { Gives (spec.fragment name.now (F.reads specifier (drop at.old pieces.now))) result (drop at.new pieces.now) }
+    ensures gives { Gives (spec.fragment name.now (F.reads specifier (drop at.old pieces.now))) result (drop at.new pieces.now) }
+    ensures puts { Puts (told.taken (drop at.old pieces.now) (F.reads specifier (drop at.old pieces.now))) read.old result read.new }
 {
     let Specifier { kind, edition } = specifier;
     if !starts(kind, edition, rest(pieces.as_slice(), *at)) {
@@ -81,7 +84,8 @@ fn copies<F: Fragments>(
     at: &mut usize,
     read: &mut Items<Taken>,
 ) -> Result<Items<Items<Binding>>, Stop>
-    ensures { Gives (spec.copies F.reads (law.names depth) (law.first depth) (spec.run F.reads depth) (suc (length (drop at.old pieces.now))) body.now separator.now [] (drop at.old pieces.now)) result (drop at.new pieces.now) }
+    ensures gives { Gives (spec.copies F.reads (law.names depth) (law.first depth) (spec.run F.reads depth) (suc (length (drop at.old pieces.now))) body.now separator.now [] (drop at.old pieces.now)) result (drop at.new pieces.now) }
+    ensures puts { Puts (told.log_copies F.reads (law.names depth) (law.first depth) (spec.run F.reads depth) (told.log F.reads depth) (suc (length (drop at.old pieces.now))) body.now separator.now (drop at.old pieces.now)) read.old result read.new }
 {
     let mut found = Items::new(alloc);
     for _turn in 0..rest(pieces.as_slice(), *at).len() + 1 {
@@ -96,7 +100,7 @@ fn copies<F: Fragments>(
 }
 
 #[cycle(run)]
-#[tactic(auto, unfolding(crate::specs::Run::node))]
+#[tactic(auto, unfolding(crate::specs::Run::node, crate::specs::Reads::log_node), using(crate::proofs::Putting::puts_any))]
 fn node<F: Fragments>(
     alloc: Global,
     fragments: &F,
@@ -106,7 +110,8 @@ fn node<F: Fragments>(
     at: &mut usize,
     read: &mut Items<Taken>,
 ) -> Result<Items<Binding>, Stop>
-    ensures { Gives (spec.node F.reads (law.names depth) (law.first depth) (spec.run F.reads depth) (out-Matcher matcher.now) (drop at.old pieces.now)) result (drop at.new pieces.now) }
+    ensures gives { Gives (spec.node F.reads (law.names depth) (law.first depth) (spec.run F.reads depth) (out-Matcher matcher.now) (drop at.old pieces.now)) result (drop at.new pieces.now) }
+    ensures puts { Puts (told.log_node F.reads (law.names depth) (law.first depth) (spec.run F.reads depth) (told.log F.reads depth) (out-Matcher matcher.now) (drop at.old pieces.now)) read.old result read.new }
 {
     match matcher {
         Matcher::Token(wanted) => {
@@ -145,7 +150,8 @@ pub fn run<F: Fragments>(
     at: &mut usize,
     read: &mut Items<Taken>,
 ) -> Result<Items<Binding>, Stop>
-    ensures { Gives (spec.run F.reads depth matchers.now (drop at.old pieces.now)) result (drop at.new pieces.now) }
+    ensures gives { Gives (spec.run F.reads depth matchers.now (drop at.old pieces.now)) result (drop at.new pieces.now) }
+    ensures puts { Puts (told.log F.reads depth matchers.now (drop at.old pieces.now)) read.old result read.new }
 {
     if depth == 0 {
         return Err(Stop::Fails);
