@@ -9,13 +9,18 @@ use Rattle.em_tree.specs.declared.fragment.Fragment.{Fragment}
 use Rattle.em_macro.specs.declared.rules.Matcher.{Matcher, out-Matcher}
 use Rattle.em_macro.specs.declared.rules.Matcher.TheOpen.{Matcher-F}
 use Rattle.em_tree.specs.Starts.{Pieces}
-use Rattle.em_macro.specs.Match.{Name, Reading, Matchers, Bindings, Node, Outcome, Takes, CannotStart, NoPrefix, TooDeep, same, is_next, binding, gather, names, first, continues, After, Between, Copies, MatchNode, MatchAll, Match, Owes, starts_at, cannot_start, is_sep, empty_node, empty_all, can_be_empty, first_node, first_all, Disjoint, Solid, DecidableNode, DecidableAll, Decidable, BeforeNode, BeforeAll, Before, Stops, at_end}
+use Rattle.em_macro.specs.Match.{Name, Reading, Matchers, Bindings, Node, Outcome, Takes, CannotStart, NoPrefix, TooDeep, same, is_next, binding, gather, names, first, continues, After, Between, Copies, MatchNode, MatchAll, Match, Owes, starts_at, cannot_start, is_sep, empty_node, empty_all, can_be_empty, first_node, first_all, Disjoint, Solid, DecidableNode, DecidableAll, Decidable, BeforeNode, BeforeAll, Before, Stops, at_end, levels}
 use Rattle.em_macro.specs.Run.{Out, Done, Fails, Breaks, Deep, and_then, token, fragment, behind, copies, node, all, run}
+use Rattle.em_macro.specs.declared.matched.Taken.{Taken}
+use Rattle.em_macro.specs.Reads.{Read, In, Reads, ReadBy, ReadBefore, fragments_of, log}
+use Rattle.em_macro.proofs.Turns.{plus_one}
+use Rattle.em_macro.proofs.Within.{log_falls}
+use Rattle.em_macro.proofs.Logging.{AllIn, all_in, reached_run, read_run}
 use Rattle.em_macro.proofs.Sound.{Sound, sound_run}
 use Rattle.em_macro.proofs.Complete.{found_run, one_binding}
 use Rattle.em_macro.proofs.Stops.{why, stop, Stopped, AtRun, stop_run, stopped_run}
 use Rattle.em_macro.specs.declared.rules.Arm.{Arm}
-use Rattle.em_macro.specs.Choose.{levels, Matches, IsBroken, IsTooDeep, Misses, Decides, AreDecidable, OneMatch}
+use Rattle.em_macro.specs.Choose.{Matches, IsBroken, IsTooDeep, Misses, Decides, AreDecidable, OneMatch}
 
 module _ (reads : Reading) where
   pub arm_matches : (a : Arm) (i r : Pieces) (bs : Bindings) → run reads levels a.matcher i ≡ Done bs r → r ≡ [] → Matches reads a i bs
@@ -111,3 +116,25 @@ module _ (reads : Reading) (owes : Owes reads) (arms : List Arm) (dec : AreDecid
 
 pub one_match : (reads : Reading) → Owes reads → OneMatch reads
 one_match reads owes arms dec i n m bs cs a b = (one_arm reads owes arms dec i n m bs cs a b, one_list reads owes arms dec i n m bs cs a b)
+
+-- ---- what the arms read
+
+pub read_by : (reads : Reading) → Owes reads → (a : Arm) (i : Pieces) → Decidable levels a.matcher at_end → ReadBy reads a i (fragments_of (log reads levels a.matcher i))
+read_by reads owes a i dec =
+    (log reads levels a.matcher i, refl, log_falls reads owes.0 levels a.matcher i,
+    λ x. (λ h. all_in (Reads reads levels a.matcher i) (log reads levels a.matcher i) x (reached_run reads levels a.matcher i) h,
+    λ h. subst (λ n. In (x.0, n) (log reads levels a.matcher i)) (sym h.5) (read_run reads owes levels a.matcher at_end dec i h.1 h.2 h.0 x.0 h.3 h.4)))
+
+pub tried_as : (reads : Reading) (arms : List Arm) (i : Pieces) (n m : ℕ) (fs : List Taken) → m ≡ n → ReadBefore reads n arms i fs → ReadBefore reads m arms i fs
+tried_as reads arms i n m fs is h = subst (λ k. ReadBefore reads k arms i fs) (sym is) h
+
+pub tried_none : (reads : Reading) (arms : List Arm) (i : Pieces) (fs : List Taken) → fs ≡ [] → ReadBefore reads 0 arms i fs
+tried_none reads arms i fs is = is
+
+pub tried_more : (reads : Reading) → Owes reads → (arms : List Arm) (i : Pieces) (n : ℕ) (a : Arm) (before old now new : List Taken) → n < length arms → a ≡ get_or arms n a
+    → Decidable levels a.matcher at_end → ReadBefore reads n arms i before → old ≡ [] → now ≡ old ++ fragments_of (log reads levels a.matcher i) → new ≡ before ++ now
+    → ReadBefore reads (n + 1) arms i new
+tried_more reads owes arms i n a before old now new below item dec h none read joined =
+    let all : now ≡ fragments_of (log reads levels a.matcher i) = read ∙ ap (λ l. l ++ fragments_of (log reads levels a.matcher i)) none in
+    subst (λ k. ReadBefore reads k arms i new) (plus_one n)
+    (before, now, h, (λ d. here (λ x. ReadBy reads x i now) arms n a d below item (subst (λ l. ReadBy reads a i l) (sym all) (read_by reads owes a i dec))), joined)

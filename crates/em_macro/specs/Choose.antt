@@ -5,12 +5,9 @@ use Rattle.em_macro.specs.declared.matched.Matched.{Matched}
 use Rattle.em_macro.specs.declared.rules.Specifier.{Specifier}
 use Rattle.em_macro.specs.declared.error.MacroError.{MacroError}
 use Rattle.em_macro.specs.declared.error.MacroError.TheVariants as e
+use Rattle.em_macro.specs.Reads.{ReadBefore}
 use Rattle.em_tree.specs.Starts.{Pieces}
-use Rattle.em_macro.specs.Match.{Name, Reading, Bindings, Outcome, NoPrefix, TooDeep, Match, Stops, Decidable, at_end}
-
--- a matcher, and what its delimiters and repetitions hold, which nest 200 deep
-abbrev pub levels : ℕ
-levels = 201
+use Rattle.em_macro.specs.Match.{Name, Reading, Bindings, Outcome, NoPrefix, TooDeep, Match, Stops, Decidable, at_end, levels}
 
 abbrev pub AreDecidable : List Arm → Type 0
 AreDecidable arms = (k : ℕ) (d : Arm) → k < length arms → Decidable levels (slice_index_or arms k d).matcher at_end
@@ -35,7 +32,7 @@ module _ (reads : Reading) where
   Decides P arms i n = (n < length arms) × ((d : Arm) → P (slice_index_or arms n d)) × ((k : ℕ) (d : Arm) → k < n → Misses (slice_index_or arms k d) i)
 
   abbrev pub Answers : List Arm → Pieces → Result Matched MacroError → Type 0
-  Answers arms i (Ok m) = Decides (λ a. Matches a i m.bindings) arms i m.arm
+  Answers arms i (Ok m) = Decides (λ a. Matches a i m.bindings) arms i m.arm × ReadBefore reads m.arm arms i m.tried
   Answers arms i (Err e.NoArm) = (k : ℕ) (d : Arm) → k < length arms → Misses (slice_index_or arms k d) i
   Answers arms i (Err (e.Broken n)) = Decides (λ a. IsBroken a i) arms i n
   Answers arms i (Err e.Depth) = (n : ℕ) × Decides (λ a. IsTooDeep a i) arms i n

@@ -238,6 +238,10 @@ abbrev pub at_end : Pieces → Bool
 at_end [] = true
 at_end (x ∷ i) = false
 
+-- a matcher, and what its delimiters and repetitions hold, which nest 200 deep
+abbrev pub levels : ℕ
+levels = 201
+
 -- ---- what the reading of fragments owes
 
 -- a fragment is never empty

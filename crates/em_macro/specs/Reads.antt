@@ -9,9 +9,8 @@ use Rattle.em_macro.specs.declared.matched.Taken.{Taken}
 use Rattle.em_macro.specs.declared.error.Stop.{Stop}
 use Rattle.em_macro.specs.declared.error.Stop.TheVariants as s
 use Rattle.em_tree.specs.Starts.{Pieces}
-use Rattle.em_macro.specs.Match.{Name, Reading, Matchers, Bindings, Node, Outcome, Takes, CannotStart, NoPrefix, TooDeep, names, first, continues, Before}
+use Rattle.em_macro.specs.Match.{Name, Reading, Matchers, Bindings, Node, Outcome, Takes, CannotStart, NoPrefix, TooDeep, names, first, continues, Before, levels}
 use Rattle.em_macro.specs.Run.{Out, Done, Fails, Breaks, Deep, token, behind, node, run}
-use Rattle.em_macro.specs.Choose.{levels}
 
 -- a fragment, and how many pieces are left where it begins
 abbrev pub Read : Type 0

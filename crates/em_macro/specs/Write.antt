@@ -19,11 +19,10 @@ use Rattle.em_macro.specs.declared.copying.Steps.TheVariants as st
 use Rattle.em_macro.specs.declared.error.CopyError.{CopyError}
 use Rattle.em_macro.specs.declared.error.CopyError.TheVariants as ce
 use Rattle.em_tree.specs.Starts.{Pieces}
-use Rattle.em_macro.specs.Match.{Name, Bindings, binding, bound_to}
+use Rattle.em_macro.specs.Match.{Name, Bindings, binding, bound_to, levels}
 use Rattle.em_macro.specs.declared.rules.Arm.{Arm}
 use Rattle.em_macro.specs.declared.matched.Matched.{Matched}
 use Rattle.em_macro.specs.Given.{pieces_in}
-use Rattle.em_macro.specs.Choose.{levels}
 
 abbrev pub Transcribers : Type 0
 Transcribers = List Transcriber
