@@ -51,17 +51,19 @@ module _ (reads : Reading) where
   same_rest bs cs r s is = cc
 
   pub arm_fails : Owes reads → (a : Arm) (i : Pieces) → Decidable levels a.matcher at_end → run reads levels a.matcher i ≡ Fails → Misses reads a i
-  arm_fails never a i dec is =
-      ((λ bs m. fails_not_done bs [] (sym is ∙ found_run reads never levels a.matcher at_end dec i [] bs m refl)),
-      (λ s. fails_not_breaks (sym is ∙ stop_run reads never levels a.matcher at_end dec i s.1 s.0 true s.2 s.3)),
-      (λ s. fails_not_deep (sym is ∙ stop_run reads never levels a.matcher at_end dec i s.1 s.0 false s.2 s.3)))
+  arm_fails never a i dec is = (
+    (λ bs m. fails_not_done bs [] (sym is ∙ found_run reads never levels a.matcher at_end dec i [] bs m refl)),
+    (λ s. fails_not_breaks (sym is ∙ stop_run reads never levels a.matcher at_end dec i s.1 s.0 true s.2 s.3)),
+    (λ s. fails_not_deep (sym is ∙ stop_run reads never levels a.matcher at_end dec i s.1 s.0 false s.2 s.3)),
+  )
 
   pub arm_leaves : Owes reads → (a : Arm) (i r : Pieces) (bs : Bindings) → Decidable levels a.matcher at_end → run reads levels a.matcher i ≡ Done bs r
       → (r ≡ [] → ⊥) → Misses reads a i
-  arm_leaves never a i r bs dec is more =
-      ((λ cs m. more (same_rest bs cs r [] (sym is ∙ found_run reads never levels a.matcher at_end dec i [] cs m refl))),
-      (λ s. done_not_breaks bs r (sym is ∙ stop_run reads never levels a.matcher at_end dec i s.1 s.0 true s.2 s.3)),
-      (λ s. done_not_deep bs r (sym is ∙ stop_run reads never levels a.matcher at_end dec i s.1 s.0 false s.2 s.3)))
+  arm_leaves never a i r bs dec is more = (
+    (λ cs m. more (same_rest bs cs r [] (sym is ∙ found_run reads never levels a.matcher at_end dec i [] cs m refl))),
+    (λ s. done_not_breaks bs r (sym is ∙ stop_run reads never levels a.matcher at_end dec i s.1 s.0 true s.2 s.3)),
+    (λ s. done_not_deep bs r (sym is ∙ stop_run reads never levels a.matcher at_end dec i s.1 s.0 false s.2 s.3)),
+  )
 
 pub here : (P : Arm → Type 0) (arms : List Arm) (n : ℕ) (a d : Arm) → n < length arms → a ≡ get_or arms n a → P a → P (get_or arms n d)
 here P arms n a d below is h = subst P (get_or_read arms n a below is d) h
@@ -120,10 +122,15 @@ one_match reads owes arms dec i n m bs cs a b = (one_arm reads owes arms dec i n
 -- ---- what the arms read
 
 pub read_by : (reads : Reading) → Owes reads → (a : Arm) (i : Pieces) → Decidable levels a.matcher at_end → ReadBy reads a i (fragments_of (log reads levels a.matcher i))
-read_by reads owes a i dec =
-    (log reads levels a.matcher i, refl, log_falls reads owes.0 levels a.matcher i,
-    λ x. (λ h. all_in (Reads reads levels a.matcher i) (log reads levels a.matcher i) x (reached_run reads levels a.matcher i) h,
-    λ h. subst (λ n. In (x.0, n) (log reads levels a.matcher i)) (sym h.5) (read_run reads owes levels a.matcher at_end dec i h.1 h.2 h.0 x.0 h.3 h.4)))
+read_by reads owes a i dec = (
+  log reads levels a.matcher i,
+  refl,
+  log_falls reads owes.0 levels a.matcher i,
+  λ x. (
+    λ h. all_in (Reads reads levels a.matcher i) (log reads levels a.matcher i) x (reached_run reads levels a.matcher i) h,
+    λ h. subst (λ n. In (x.0, n) (log reads levels a.matcher i)) (sym h.5) (read_run reads owes levels a.matcher at_end dec i h.1 h.2 h.0 x.0 h.3 h.4),
+  ),
+)
 
 pub tried_as : (reads : Reading) (arms : List Arm) (i : Pieces) (n m : ℕ) (fs : List Taken) → m ≡ n → ReadBefore reads n arms i fs → ReadBefore reads m arms i fs
 tried_as reads arms i n m fs is h = subst (λ k. ReadBefore reads k arms i fs) (sym is) h

@@ -57,8 +57,10 @@ module _ (reads : Reading) (owes : Owes reads) (vars : Matchers → List Name) (
   more body (Some x) i j k r (inr a) t s =
       let next : (is_next x j ≡ true) × (length j ≡ suc (length k)) = after_next x j k t in
       let e : length i ≡ length j = ap (λ l. length l) a.1 in
-      inl (or-right (starts body i) (empty body && is_next x i) (and-both (empty body) (is_next x i) a.0 (ap (λ l. is_next x l) a.1 ∙ next.0)),
-      omega (arith, next.1, e, not_longer (rep body (Some x) k) (empty body) k r s))
+      inl (
+        or-right (starts body i) (empty body && is_next x i) (and-both (empty body) (is_next x i) a.0 (ap (λ l. is_next x l) a.1 ∙ next.0)),
+        omega (arith, next.1, e, not_longer (rep body (Some x) k) (empty body) k r s),
+      )
 
   last : (body : Matchers) (sep : Option Token) (i r : Pieces) → Starts (starts body i) (empty body) i r → Starts (rep body sep i) (empty body) i r
   last body sep i r (inl a) = inl (or-left (starts body i) (empty body && is_sep sep i) a.0, a.1)
@@ -92,12 +94,17 @@ module _ (reads : Reading) (owes : Owes reads) (vars : Matchers → List Name) (
     where
       join : Starts (first_node empty starts (out-Matcher m) i) (empty_node empty (out-Matcher m)) i h.2
           → Starts (first_all empty starts ms h.2) (empty_all empty ms) h.2 r → Starts (first_all empty starts (m ∷ ms) i) (empty_all empty (m ∷ ms)) i r
-      join (inl a) s = inl (or-left (first_node empty starts (out-Matcher m) i) (empty_node empty (out-Matcher m) && first_all empty starts ms i) a.0,
-          omega (arith, a.1, not_longer (first_all empty starts ms h.2) (empty_all empty ms) h.2 r s))
+      join (inl a) s = inl (
+        or-left (first_node empty starts (out-Matcher m) i) (empty_node empty (out-Matcher m) && first_all empty starts ms i) a.0,
+        omega (arith, a.1, not_longer (first_all empty starts ms h.2) (empty_all empty ms) h.2 r s),
+      )
       join (inr a) (inl s) =
           let e : length i ≡ length h.2 = ap (λ l. length l) a.1 in
-          inl (or-right (first_node empty starts (out-Matcher m) i) (empty_node empty (out-Matcher m) && first_all empty starts ms i)
-          (and-both (empty_node empty (out-Matcher m)) (first_all empty starts ms i) a.0 (ap (λ l. first_all empty starts ms l) a.1 ∙ s.0)), omega (arith, e, s.1))
+          inl (
+            or-right (first_node empty starts (out-Matcher m) i) (empty_node empty (out-Matcher m) && first_all empty starts ms i)
+                (and-both (empty_node empty (out-Matcher m)) (first_all empty starts ms i) a.0 (ap (λ l. first_all empty starts ms l) a.1 ∙ s.0)),
+            omega (arith, e, s.1),
+          )
       join (inr a) (inr s) = inr (and-both (empty_node empty (out-Matcher m)) (empty_all empty ms) a.0 s.0, a.1 ∙ s.1)
 
 pub begin_run : (reads : Reading) → Owes reads → (depth : ℕ) (ms : Matchers) (i r : Pieces) (bs : Bindings)

@@ -47,8 +47,11 @@ within_then : {A B : Type 0} (i : Pieces) (m : Out A) (f : A → Pieces → Out 
 within_then {B = B} i (Done a r) f g xs h k = go (f a r) (k a r)
   where
     go : (o : Out B) → Within r o (g a r) → Within i o (xs ++ g a r)
-    go (Done b s) w = (falls_append (suc (length i)) (length r) xs (g a r) h.0 h.1 w.0 (omega (arith, h.2)),
-        above_append (length s) xs (g a r) (above_less (length s) (length r) xs w.2 h.1) w.1, omega (arith, h.2, w.2))
+    go (Done b s) w = (
+      falls_append (suc (length i)) (length r) xs (g a r) h.0 h.1 w.0 (omega (arith, h.2)),
+      above_append (length s) xs (g a r) (above_less (length s) (length r) xs w.2 h.1) w.1,
+      omega (arith, h.2, w.2),
+    )
     go Fails w = falls_append (suc (length i)) (length r) xs (g a r) h.0 h.1 w (omega (arith, h.2))
     go Breaks w = falls_append (suc (length i)) (length r) xs (g a r) h.0 h.1 w (omega (arith, h.2))
     go Deep w = falls_append (suc (length i)) (length r) xs (g a r) h.0 h.1 w (omega (arith, h.2))

@@ -43,15 +43,23 @@ fn choose<F: Fragments>(
         let mut at = 0;
         let mut read = Items::new(alloc);
         let matcher = one.matcher.as_slice();
-        match run(alloc, fragments, LEVELS, matcher, pieces, &mut at, &mut read) {
+        match run(
+            alloc, fragments, LEVELS, matcher, pieces, &mut at, &mut read,
+        ) {
             Ok(bindings) => {
                 if rest(pieces.as_slice(), at).is_empty() {
                     let arm = number(index)?;
-                    return Ok(Matched { arm, bindings, tried });
+                    return Ok(Matched {
+                        arm,
+                        bindings,
+                        tried,
+                    });
                 }
             }
             Err(Stop::Fails) => {}
-            Err(Stop::Broken) => return Err(MacroError::Broken { arm: number(index)? }),
+            Err(Stop::Broken) => return Err(MacroError::Broken {
+                arm: number(index)?,
+            }),
             Err(Stop::Depth) => return Err(MacroError::Depth),
             Err(Stop::NoMemory) => return Err(MacroError::NoMemory),
         }
@@ -79,5 +87,4 @@ pub fn match_call<F: Fragments>(
 /// Law: of rules that are decidable with one token at most one arm is chosen, with one list of bindings.
 pub fn one_match<F: Fragments>(_fragments: &F)
     ensures { OneMatch F.reads }
-{
-}
+{}

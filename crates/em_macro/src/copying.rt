@@ -100,11 +100,7 @@ fn uses_node(
 
 /// The variables that the transcriber names.
 #[cycle(uses)]
-fn uses(
-    depth: usize,
-    transcribers: &[Transcriber],
-    found: &mut Items<Name>,
-) -> Result<(), NoMemory>
+fn uses(depth: usize, transcribers: &[Transcriber], found: &mut Items<Name>) -> Result<(), NoMemory>
     ensures { OnOk result (found.new ≡ found.old ++ spec.uses depth transcribers.now) }
 {
     if depth == 0 {
@@ -253,6 +249,13 @@ pub fn transcribe(
     let arm = &rules.arms.as_slice()[matched.arm as usize];
     let mut out = List::new(alloc);
     let bindings = matched.bindings.as_slice();
-    write(alloc, mark, LEVELS, arm.transcriber.as_slice(), bindings, &mut out)?;
+    write(
+        alloc,
+        mark,
+        LEVELS,
+        arm.transcriber.as_slice(),
+        bindings,
+        &mut out,
+    )?;
     Ok(out)
 }

@@ -10,7 +10,6 @@ mod fragments;
 mod matched;
 mod matching;
 mod put;
-
 mod rules;
 mod starting;
 mod tokens;

@@ -127,10 +127,23 @@ fn node<F: Fragments>(
             token(close, pieces.as_slice(), at)?;
             Ok(inside)
         }
-        Matcher::Repeat { body, separator, plus } => {
+        Matcher::Repeat {
+            body,
+            separator,
+            plus,
+        } => {
             let mut all = Items::new(alloc);
             if *plus || first(depth, body.as_slice(), rest(pieces.as_slice(), *at)) {
-                all = copies(alloc, fragments, depth, body.as_slice(), separator, pieces, at, read)?;
+                all = copies(
+                    alloc,
+                    fragments,
+                    depth,
+                    body.as_slice(),
+                    separator,
+                    pieces,
+                    at,
+                    read,
+                )?;
             }
             let mut variables = Items::new(alloc);
             names(depth, body.as_slice(), &mut variables)?;

@@ -14,7 +14,10 @@ pub struct Specifier {
 pub enum Matcher {
     Token(Token),
     /// `$name:kind`.
-    Fragment { name: Name, specifier: Specifier },
+    Fragment {
+        name: Name,
+        specifier: Specifier,
+    },
     Delimited {
         open: Token,
         body: Items<Matcher>,
@@ -39,7 +42,10 @@ pub enum Transcriber {
         name: Name,
     },
     /// `$crate`.
-    Crate { dollar: Token, word: Token },
+    Crate {
+        dollar: Token,
+        word: Token,
+    },
     Delimited {
         open: Token,
         body: Items<Transcriber>,

@@ -23,7 +23,11 @@ fn empty_node(depth: usize, matcher: &Matcher) -> bool
     ensures { result ≡ law.empty_node (law.can_be_empty depth) (out-Matcher matcher.now) }
 {
     match matcher {
-        Matcher::Repeat { body, plus: true, .. } => can_be_empty(depth, body.as_slice()),
+        Matcher::Repeat {
+            body,
+            plus: true,
+            ..
+        } => can_be_empty(depth, body.as_slice()),
         Matcher::Repeat { plus: false, .. } => true,
         _ => false,
     }
@@ -53,7 +57,11 @@ fn first_node(depth: usize, matcher: &Matcher, pieces: &[Piece]) -> bool
         Matcher::Token(token) => is_next(token, pieces),
         Matcher::Fragment { specifier, .. } => starts(specifier.kind, specifier.edition, pieces),
         Matcher::Delimited { open, .. } => is_next(open, pieces),
-        Matcher::Repeat { body, separator, .. } => {
+        Matcher::Repeat {
+            body,
+            separator,
+            ..
+        } => {
             first(depth, body.as_slice(), pieces)
                 || can_be_empty(depth, body.as_slice()) && is_separator(separator, pieces)
         }

@@ -62,9 +62,13 @@ fn same(wanted: &Token, token: &Token) -> bool
     ensures { result ≡ law.same wanted.now token.now }
 {
     match (&wanted.kind, &token.kind) {
-        (TokenKind::Ident { name, raw }, TokenKind::Ident { name: other, raw: its }) => {
-            same_name(name, other) && same_bool(*raw, *its)
-        }
+        (
+            TokenKind::Ident { name, raw },
+            TokenKind::Ident {
+                name: other,
+                raw: its,
+            },
+        ) => { same_name(name, other) && same_bool(*raw, *its) }
         (kind, its) => class(kind) == class(its) && same_spelling(wanted, token),
     }
 }

@@ -24,10 +24,12 @@ write-returns-in_err-write_node t c =
     c.write_node.new.out c.in_err-write_node.field-0.0 (search rules) (search rules) c.in_err-write_node.ensures)
 
 pub write-loop-transcriber-preserved : goal.write-loop-transcriber-preserved
-write-loop-transcriber-preserved t c =
-    (c.loop-transcriber.invariant.0, c.loop-transcriber.invariant.1
-    ∙ write_goes c.args.mark (uses (c.args.depth - 1)) (written c.args.mark (c.args.depth - 1)) c.args.transcribers.now c.loop-transcriber.transcriber-index c.transcriber-item.result c.args.bindings.now c.loop-transcriber.out
-    c.write_node.new.out (search rules) (search rules) (search rules))
+write-loop-transcriber-preserved t c = (
+  c.loop-transcriber.invariant.0,
+  c.loop-transcriber.invariant.1
+      ∙ write_goes c.args.mark (uses (c.args.depth - 1)) (written c.args.mark (c.args.depth - 1)) c.args.transcribers.now c.loop-transcriber.transcriber-index c.transcriber-item.result c.args.bindings.now c.loop-transcriber.out
+      c.write_node.new.out (search rules) (search rules) (search rules),
+)
 
 pub write-returns : goal.write-returns
 write-returns t c =
