@@ -1,24 +1,17 @@
 -- What the pass over an arm says of the arm.
-use Rattle.std.proofs.lemmas.List.{append-nil}
 use Rattle.std.proofs.lemmas.List.{get_or_read}
-use Rattle.std.proofs.Common.{get_or, below_more, ◌≡◌, ℕ, zero, suc, ◌+◌, ◌≤◌, ◌<◌, ◌&&◌, ◌||◌, ◌⊎◌, inl, inr, Bool, true, false, if◌then◌else◌, cond, List, [], ◌∷◌, ◌++◌, length, Option, Some, None, refl, sym, ◌∙◌, ap, subst, append_assoc, arith}
-use Rattle.em_macro.specs.declared.rules.Specifier.{Specifier}
-use Rattle.em_base.specs.declared.token.Token.{Token}
-use Rattle.em_tree.specs.declared.piece.Piece.TheVariants as p
-use Rattle.em_tree.specs.declared.fragment.Fragment.{Fragment}
-use Rattle.em_macro.specs.declared.rules.Matcher.{Matcher, out-Matcher}
-use Rattle.em_macro.specs.declared.rules.Matcher.TheOpen.{Matcher-F}
+use Rattle.std.proofs.Common.{get_or, below_more, ◌≡◌, ℕ, zero, suc, ◌+◌, ◌<◌, ◌⊎◌, inl, inr, true, false, List, [], ◌∷◌, ◌++◌, length, refl, sym, ◌∙◌, ap, subst, arith}
 use Rattle.em_tree.specs.Starts.{Pieces}
-use Rattle.em_macro.specs.Match.{Name, Reading, Matchers, Bindings, Node, Outcome, Takes, CannotStart, NoPrefix, TooDeep, same, is_next, binding, gather, names, first, continues, After, Between, Copies, MatchNode, MatchAll, Match, Owes, starts_at, cannot_start, is_sep, empty_node, empty_all, can_be_empty, first_node, first_all, Disjoint, Solid, DecidableNode, DecidableAll, Decidable, BeforeNode, BeforeAll, Before, Stops, at_end, levels}
-use Rattle.em_macro.specs.Run.{Out, Done, Fails, Breaks, Deep, and_then, token, fragment, behind, copies, node, all, run}
+use Rattle.em_macro.specs.Match.{Reading, Bindings, same, Match, Owes, Decidable, at_end, levels}
+use Rattle.em_macro.specs.Run.{Out, Done, Fails, Breaks, Deep, run}
 use Rattle.em_macro.specs.declared.matched.Taken.{Taken}
-use Rattle.em_macro.specs.Reads.{Read, In, Reads, ReadBy, ReadBefore, fragments_of, log}
+use Rattle.em_macro.specs.Reads.{In, Reads, ReadBy, ReadBefore, fragments_of, log}
 use Rattle.em_macro.proofs.Turns.{plus_one}
 use Rattle.em_macro.proofs.Within.{log_falls}
-use Rattle.em_macro.proofs.Logging.{AllIn, all_in, reached_run, read_run}
+use Rattle.em_macro.proofs.Logging.{all_in, reached_run, read_run}
 use Rattle.em_macro.proofs.Sound.{Sound, sound_run}
 use Rattle.em_macro.proofs.Complete.{found_run, one_binding}
-use Rattle.em_macro.proofs.Stops.{why, stop, Stopped, AtRun, stop_run, stopped_run}
+use Rattle.em_macro.proofs.Stops.{Stopped, AtRun, stop_run, stopped_run}
 use Rattle.em_macro.specs.declared.rules.Arm.{Arm}
 use Rattle.em_macro.specs.Choose.{Matches, IsBroken, IsTooDeep, Misses, Decides, AreDecidable, OneMatch}
 

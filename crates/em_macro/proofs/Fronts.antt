@@ -1,10 +1,10 @@
 -- The token at an index.
-use Rattle.std.proofs.Common.{◌≡◌, ℕ, zero, suc, ◌+◌, ◌<◌, ◌≤◌, Bool, true, false, if◌then◌else◌, Option, Some, List, [], ◌∷◌, length, drop, refl, sym, ◌∙◌, ap, arith}
+use Rattle.std.proofs.Common.{◌≡◌, ℕ, zero, suc, ◌+◌, ◌<◌, true, if◌then◌else◌, Some, [], ◌∷◌, length, drop, refl, sym, ◌∙◌, ap, arith}
 use Rattle.em_base.specs.declared.token.Token.{Token}
 use Rattle.em_tree.specs.declared.piece.Piece.TheVariants as p
-use Rattle.em_tree.specs.Starts.{Pieces, starts}
-use Rattle.em_macro.specs.Match.{same, is_next}
-use Rattle.em_macro.specs.Run.{Out, Done, Fails, token, behind}
+use Rattle.em_tree.specs.Starts.{Pieces}
+use Rattle.em_macro.specs.Match.{is_next}
+use Rattle.em_macro.specs.Run.{Done, Fails, token, behind}
 use Rattle.em_macro.proofs.Turns.{tail_of}
 
 pub takes_token : (t : Token) (ps : Pieces) (at : ℕ) → is_next t (drop at ps) ≡ true → token t (drop at ps) ≡ Done tt (drop (at + 1) ps)

@@ -1,6 +1,5 @@
 -- One variable more of a repetition.
 use Rattle.std.proofs.Common.{◌≡◌, ℕ, ◌+◌, ◌<◌, List, [], ◌∷◌, ◌++◌, length, map, drop, get_or, sym, ◌∙◌, ap, append_assoc}
-use Rattle.em_macro.specs.declared.matched.Bound.{Bound}
 use Rattle.em_macro.specs.declared.matched.Bound.TheVariants as b
 use Rattle.em_macro.specs.Match.{Name, Bindings, binding, bound_to, gather}
 use Rattle.em_macro.proofs.Turns.{next_item}

@@ -1,15 +1,15 @@
 -- What the pass reads is what everything before it leads to.
-use Rattle.std.proofs.Common.{◌≡◌, ℕ, zero, suc, ◌+◌, ◌≤◌, ◌<◌, ◌&&◌, ◌||◌, ◌⊎◌, inl, inr, Bool, true, false, if◌then◌else◌, List, [], ◌∷◌, ◌++◌, length, Option, Some, None, refl, sym, ◌∙◌, ap, subst, arith}
+use Rattle.std.proofs.Common.{◌≡◌, ℕ, zero, suc, ◌<◌, ◌&&◌, ◌||◌, inl, inr, Bool, true, false, if◌then◌else◌, List, [], ◌∷◌, ◌++◌, length, Option, Some, None, refl, sym, ◌∙◌, ap, subst, arith}
 use Rattle.em_base.specs.declared.token.Token.{Token}
 use Rattle.em_macro.specs.declared.rules.Specifier.{Specifier}
-use Rattle.em_macro.specs.declared.rules.Matcher.{Matcher, out-Matcher}
+use Rattle.em_macro.specs.declared.rules.Matcher.{out-Matcher}
 use Rattle.em_macro.specs.declared.rules.Matcher.TheOpen.{Matcher-F}
 use Rattle.em_macro.specs.declared.matched.Taken.{Taken}
 use Rattle.em_tree.specs.Starts.{Pieces}
-use Rattle.em_macro.specs.Match.{Name, Reading, Matchers, Bindings, Node, Outcome, Takes, CannotStart, NoPrefix, TooDeep, Owes, names, first, continues, first_all, starts_at, empty_all, can_be_empty, After, Between, Copies, MatchNode, MatchAll, Match, Solid, DecidableNode, DecidableAll, Decidable, BeforeNode, BeforeAll, Before}
-use Rattle.em_macro.specs.Run.{Out, Done, Fails, Breaks, Deep, and_then, token, behind, copies, node, all, run}
+use Rattle.em_macro.specs.Match.{Name, Reading, Matchers, Bindings, Node, Outcome, Takes, CannotStart, NoPrefix, TooDeep, Owes, names, first, continues, first_all, starts_at, empty_all, can_be_empty, Between, Copies, MatchNode, Match, Solid, DecidableNode, DecidableAll, Decidable, BeforeNode, BeforeAll, Before}
+use Rattle.em_macro.specs.Run.{Out, Done, Fails, Breaks, Deep, token, behind, node, run}
 use Rattle.em_macro.specs.Reads.{Read, In, Reads, after, taken, log_copies, log_node, log_all, log}
-use Rattle.em_macro.proofs.Start.{Starts, or-left, or-right, after_next, taken_starts, begin_run}
+use Rattle.em_macro.proofs.Start.{Starts, or-left, after_next, taken_starts, begin_run}
 use Rattle.em_macro.proofs.Sound.{Sound, IsToken, sound_token, between, sound_node, sound_run}
 use Rattle.em_macro.proofs.Complete.{token_there, behind_is, progress, surely, on, solid_star, found_node, found_run, first_copy}
 use Rattle.em_macro.proofs.Stops.{reach_all, reach_run}

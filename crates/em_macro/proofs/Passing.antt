@@ -1,18 +1,15 @@
 -- One turn of the loops of the pass.
 use Rattle.std.proofs.lemmas.List.{append-nil}
-use Rattle.std.proofs.Common.{◌≡◌, ℕ, zero, suc, ◌+◌, ◌≤◌, ◌<◌, ◌&&◌, ◌||◌, ◌⊎◌, inl, inr, Bool, true, false, not, if◌then◌else◌, cond, List, [], ◌∷◌, ◌++◌, length, Option, Some, None, refl, sym, ◌∙◌, ap, Result, Ok, Err, get_or, drop, ◌-◌, subst, append_assoc, arith}
+use Rattle.std.proofs.Common.{◌≡◌, ℕ, suc, ◌+◌, ◌≤◌, ◌<◌, Bool, true, false, not, if◌then◌else◌, List, [], ◌∷◌, ◌++◌, length, Option, refl, sym, ◌∙◌, ap, Result, Err, get_or, drop, subst, append_assoc, arith}
 use Rattle.em_macro.specs.declared.rules.Specifier.{Specifier}
 use Rattle.em_base.specs.declared.token.Token.{Token}
-use Rattle.em_tree.specs.declared.piece.Piece.TheVariants as p
-use Rattle.em_macro.specs.declared.matched.Taken.{Taken}
 use Rattle.em_macro.specs.declared.rules.Matcher.{Matcher, out-Matcher}
-use Rattle.em_macro.specs.declared.rules.Matcher.TheOpen.{Matcher-F}
 use Rattle.em_base.specs.declared.edition.Edition.{Edition}
 use Rattle.em_tree.specs.declared.piece.FragmentKind.{FragmentKind}
 use Rattle.em_tree.specs.Starts.{Pieces, starts}
 use Rattle.em_macro.proofs.Fronts.{is_within}
-use Rattle.em_macro.specs.Match.{Name, Reading, Matchers, Bindings, Node, Outcome, Takes, CannotStart, NoPrefix, TooDeep, same, is_next, binding, gather, names, first, continues, After, Between, Copies, MatchNode, MatchAll, Match, starts_at, is_sep, empty_node, empty_all, can_be_empty, first_node, first_all, Disjoint, Solid, DecidableNode, DecidableAll, Decidable, Starting, cannot_start, BeforeNode, BeforeAll, Before, Stops, at_end}
-use Rattle.em_macro.specs.Run.{Out, Done, Fails, Breaks, Deep, and_then, token, fragment, behind, copies, node, all, run}
+use Rattle.em_macro.specs.Match.{Name, Reading, Matchers, Bindings, Outcome, Takes, CannotStart, NoPrefix, TooDeep, continues, Starting, cannot_start}
+use Rattle.em_macro.specs.Run.{Out, Done, Fails, Breaks, Deep, and_then, fragment, behind, copies, node, all}
 use Rattle.em_macro.specs.declared.error.Stop.{Stop}
 use Rattle.em_macro.specs.declared.error.Stop.TheVariants as s
 use Rattle.em_macro.specs.Given.{Gives}

@@ -1,6 +1,6 @@
 -- One turn of the loops that read fragments.
 use Rattle.std.proofs.lemmas.List.{append-nil}
-use Rattle.std.proofs.Common.{◌≡◌, ℕ, zero, suc, ◌+◌, ◌-◌, ◌<◌, ◌≤◌, Bool, true, false, if◌then◌else◌, List, [], ◌∷◌, ◌++◌, length, map, drop, get_or, Option, Result, Ok, Err, refl, sym, ◌∙◌, ap, subst, append_assoc, arith}
+use Rattle.std.proofs.Common.{◌≡◌, ℕ, suc, ◌+◌, ◌<◌, Bool, true, false, if◌then◌else◌, List, [], ◌∷◌, ◌++◌, length, drop, get_or, Option, Result, Err, refl, sym, ◌∙◌, ap, subst, append_assoc}
 use Rattle.em_base.specs.declared.token.Token.{Token}
 use Rattle.em_tree.specs.Starts.{Pieces}
 use Rattle.em_macro.specs.declared.error.Stop.{Stop}
@@ -8,7 +8,7 @@ use Rattle.em_macro.specs.declared.error.Stop.TheVariants as s
 use Rattle.em_macro.specs.declared.rules.Matcher.{Matcher, out-Matcher}
 use Rattle.em_macro.specs.declared.matched.Taken.{Taken}
 use Rattle.em_macro.specs.Match.{Name, Reading, Matchers, Bindings, continues}
-use Rattle.em_macro.specs.Run.{Out, Done, Fails, Breaks, Deep, behind, node}
+use Rattle.em_macro.specs.Run.{Out, Done, behind, node}
 use Rattle.em_macro.specs.Given.{Gives}
 use Rattle.em_macro.specs.Reads.{Read, fragments_of, Puts, after, log_copies, log_node, log_all}
 use Rattle.em_macro.proofs.Turns.{next_item}

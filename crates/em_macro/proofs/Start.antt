@@ -1,15 +1,13 @@
 -- A match takes pieces that the first test knows, or none.
-use Rattle.std.proofs.lemmas.List.{append-nil}
-use Rattle.std.proofs.Common.{◌≡◌, ℕ, zero, suc, ◌+◌, ◌≤◌, ◌<◌, ◌&&◌, ◌||◌, ◌⊎◌, inl, inr, Bool, true, false, not, if◌then◌else◌, cond, List, [], ◌∷◌, ◌++◌, length, Option, Some, None, refl, sym, ◌∙◌, ap, subst, append_assoc, arith}
+use Rattle.std.proofs.Common.{◌≡◌, ℕ, zero, suc, ◌≤◌, ◌<◌, ◌&&◌, ◌||◌, ◌⊎◌, inl, inr, Bool, true, false, not, if◌then◌else◌, List, [], ◌∷◌, length, Option, Some, None, refl, sym, ◌∙◌, ap, subst, arith}
 use Rattle.em_macro.specs.declared.rules.Specifier.{Specifier}
 use Rattle.em_base.specs.declared.token.Token.{Token}
 use Rattle.em_tree.specs.declared.piece.Piece.TheVariants as p
 use Rattle.em_macro.specs.declared.matched.Taken.{Taken}
-use Rattle.em_macro.specs.declared.rules.Matcher.{Matcher, out-Matcher}
+use Rattle.em_macro.specs.declared.rules.Matcher.{out-Matcher}
 use Rattle.em_macro.specs.declared.rules.Matcher.TheOpen.{Matcher-F}
 use Rattle.em_tree.specs.Starts.{Pieces}
-use Rattle.em_macro.specs.Match.{Name, Reading, Matchers, Bindings, Node, Outcome, Takes, CannotStart, NoPrefix, TooDeep, same, is_next, binding, gather, names, first, continues, After, Between, Copies, MatchNode, MatchAll, Match, Owes, starts_at, cannot_start, is_sep, empty_node, empty_all, can_be_empty, first_node, first_all, Disjoint, Solid, DecidableNode, DecidableAll, Decidable, BeforeNode, BeforeAll, Before, Stops, at_end}
-use Rattle.em_macro.specs.Run.{Out, Done, Fails, Breaks, Deep, and_then, token, fragment, behind, copies, node, all, run}
+use Rattle.em_macro.specs.Match.{Name, Reading, Matchers, Bindings, Node, Takes, is_next, names, first, After, Between, Copies, MatchNode, MatchAll, Match, Owes, starts_at, cannot_start, is_sep, empty_node, empty_all, can_be_empty, first_node, first_all}
 
 -- a match begins with a piece that can start it and takes at least that, or the matcher can be empty and takes none
 abbrev pub Starts : Bool → Bool → Pieces → Pieces → Type 0

@@ -1,18 +1,16 @@
 -- The pass stops at a broken fragment, or one that is too deep, exactly where everything before it matched.
-use Rattle.std.proofs.lemmas.List.{append-nil}
-use Rattle.std.proofs.Common.{◌≡◌, ℕ, zero, suc, ◌+◌, ◌≤◌, ◌<◌, ◌&&◌, ◌||◌, ◌⊎◌, inl, inr, Bool, true, false, not, if◌then◌else◌, cond, List, [], ◌∷◌, ◌++◌, length, Option, Some, None, refl, sym, ◌∙◌, ap, subst, append_assoc, arith}
+use Rattle.std.proofs.Common.{◌≡◌, ℕ, zero, suc, ◌<◌, ◌&&◌, ◌||◌, inl, inr, Bool, true, false, not, if◌then◌else◌, List, [], ◌∷◌, ◌++◌, length, Option, Some, None, refl, ◌∙◌, ap, arith}
 use Rattle.em_macro.specs.declared.rules.Specifier.{Specifier}
 use Rattle.em_base.specs.declared.token.Token.{Token}
 use Rattle.em_tree.specs.declared.piece.Piece.TheVariants as p
-use Rattle.em_macro.specs.declared.matched.Taken.{Taken}
-use Rattle.em_macro.specs.declared.rules.Matcher.{Matcher, out-Matcher}
+use Rattle.em_macro.specs.declared.rules.Matcher.{out-Matcher}
 use Rattle.em_macro.specs.declared.rules.Matcher.TheOpen.{Matcher-F}
 use Rattle.em_tree.specs.Starts.{Pieces}
-use Rattle.em_macro.specs.Match.{Name, Reading, Matchers, Bindings, Node, Outcome, Takes, CannotStart, NoPrefix, TooDeep, same, is_next, binding, gather, names, first, continues, After, Between, Copies, MatchNode, MatchAll, Match, Owes, starts_at, cannot_start, is_sep, empty_node, empty_all, can_be_empty, first_node, first_all, Disjoint, Solid, DecidableNode, DecidableAll, Decidable, BeforeNode, BeforeAll, Before, Stops, at_end}
+use Rattle.em_macro.specs.Match.{Name, Reading, Matchers, Bindings, Node, Outcome, Takes, CannotStart, NoPrefix, TooDeep, same, is_next, gather, names, first, continues, Between, Copies, MatchNode, MatchAll, Match, Owes, starts_at, cannot_start, is_sep, empty_node, empty_all, can_be_empty, first_node, first_all, Solid, DecidableNode, DecidableAll, Decidable, BeforeNode, BeforeAll, Before}
 use Rattle.em_macro.specs.Run.{Out, Done, Fails, Breaks, Deep, and_then, token, fragment, behind, copies, node, all, run}
-use Rattle.em_macro.proofs.Start.{Starts, or-left, or-right, and-both, not_longer, after_next, begin_copies, begin_node, begin_all, begin_run}
+use Rattle.em_macro.proofs.Start.{Starts, or-left, or-right, and-both, after_next, begin_copies, begin_node, begin_run}
 use Rattle.em_macro.proofs.Sound.{Sound, IsToken, sound_token, between, sound_all, sound_node, sound_run}
-use Rattle.em_macro.proofs.Complete.{token_there, behind_is, progress, surely, on, solid_star, found_node, found_run, first_copy, turn}
+use Rattle.em_macro.proofs.Complete.{token_there, progress, surely, on, solid_star, found_node, found_run, first_copy, turn}
 
 -- true: broken, false: too deep
 abbrev pub why : Bool → Outcome

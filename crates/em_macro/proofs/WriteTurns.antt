@@ -1,12 +1,11 @@
 -- One turn of the loops that copy a transcriber.
-use Rattle.std.proofs.Common.{◌≡◌, ℕ, zero, suc, ◌+◌, ◌-◌, ◌<◌, ◌≤◌, List, [], ◌∷◌, ◌++◌, length, map, get_or, drop, Option, Some, None, Result, Ok, Err, refl, sym, ◌∙◌, ap, subst, arith}
+use Rattle.std.proofs.Common.{◌≡◌, ℕ, suc, ◌+◌, ◌-◌, ◌<◌, ◌≤◌, List, [], ◌++◌, length, map, get_or, drop, Option, Some, Result, Err, sym, ◌∙◌, ap, subst, arith}
 use Rattle.em_base.specs.declared.token.Token.{Token}
 use Rattle.em_macro.specs.declared.rules.Transcriber.{Transcriber, out-Transcriber}
-use Rattle.em_macro.specs.declared.rules.Transcriber.TheOpen.{Transcriber-F}
 use Rattle.em_macro.specs.declared.error.CopyError.{CopyError}
 use Rattle.em_macro.specs.declared.error.CopyError.TheVariants as ce
 use Rattle.em_tree.specs.Starts.{Pieces}
-use Rattle.em_macro.specs.Match.{Name, Reading, Bindings}
+use Rattle.em_macro.specs.Match.{Name, Bindings}
 use Rattle.em_base.specs.declared.place.Mark.{Mark}
 use Rattle.em_macro.specs.Write.{Transcribers, bind, nth, between, copies, write_node, write_all, Writes}
 use Rattle.em_macro.proofs.Turns.{next_item}

@@ -2,12 +2,11 @@
 use Rattle.std.specs.Prelude.{◌≡◌, ℕ, ◌<◌, List, [], length, slice_index_or, Result, Ok, Err}
 use Rattle.em_macro.specs.declared.rules.Arm.{Arm}
 use Rattle.em_macro.specs.declared.matched.Matched.{Matched}
-use Rattle.em_macro.specs.declared.rules.Specifier.{Specifier}
 use Rattle.em_macro.specs.declared.error.MacroError.{MacroError}
 use Rattle.em_macro.specs.declared.error.MacroError.TheVariants as e
 use Rattle.em_macro.specs.Reads.{ReadBefore}
 use Rattle.em_tree.specs.Starts.{Pieces}
-use Rattle.em_macro.specs.Match.{Name, Reading, Bindings, Outcome, NoPrefix, TooDeep, Match, Stops, Decidable, at_end, levels}
+use Rattle.em_macro.specs.Match.{Reading, Bindings, NoPrefix, TooDeep, Match, Stops, Decidable, at_end, levels}
 
 abbrev pub AreDecidable : List Arm → Type 0
 AreDecidable arms = (k : ℕ) (d : Arm) → k < length arms → Decidable levels (slice_index_or arms k d).matcher at_end

@@ -1,5 +1,5 @@
 -- What the functions that match ensure.
-use Rattle.std.specs.Prelude.{◌≡◌, ℕ, ◌≤◌, length, drop, Result, Ok, Err}
+use Rattle.std.specs.Prelude.{◌≡◌, ◌≤◌, length, drop, Result, Ok, Err}
 use Rattle.em_macro.specs.declared.matched.Taken.{Taken}
 use Rattle.em_tree.specs.declared.fragment.FragError.{FragError}
 use Rattle.em_tree.specs.declared.fragment.FragError.TheVariants as f

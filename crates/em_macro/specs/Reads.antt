@@ -1,9 +1,9 @@
 -- Which fragments an arm reads: everything before them matched, and the pieces there have a prefix of their kind.
-use Rattle.std.specs.Prelude.{◌≡◌, ℕ, zero, suc, ◌<◌, ◌⊎◌, ◌↔◌, ◌||◌, Bool, true, false, if◌then◌else◌, List, [], ◌∷◌, ◌++◌, length, map, slice_index_or, Option, Result, Ok, Err}
+use Rattle.std.specs.Prelude.{◌≡◌, ℕ, zero, suc, ◌<◌, ◌⊎◌, ◌↔◌, ◌||◌, Bool, if◌then◌else◌, List, [], ◌∷◌, ◌++◌, length, map, slice_index_or, Option, Result, Ok, Err}
 use Rattle.em_base.specs.declared.token.Token.{Token}
 use Rattle.em_macro.specs.declared.rules.Specifier.{Specifier}
 use Rattle.em_macro.specs.declared.rules.Arm.{Arm}
-use Rattle.em_macro.specs.declared.rules.Matcher.{Matcher, out-Matcher}
+use Rattle.em_macro.specs.declared.rules.Matcher.{out-Matcher}
 use Rattle.em_macro.specs.declared.rules.Matcher.TheOpen.{Matcher-F}
 use Rattle.em_macro.specs.declared.matched.Taken.{Taken}
 use Rattle.em_macro.specs.declared.error.Stop.{Stop}

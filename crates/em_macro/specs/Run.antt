@@ -1,16 +1,12 @@
 -- How a matcher is matched in one pass: the steps that the code takes.
-use Rattle.std.specs.Prelude.{◌≡◌, ℕ, zero, suc, ◌+◌, ◌≤◌, ◌<◌, ◌&&◌, ◌||◌, Bool, true, false, if◌then◌else◌, List, [], ◌∷◌, ◌++◌, length, Option, Some, None}
-use Rattle.em_macro.specs.declared.rules.Specifier.{Specifier}
+use Rattle.std.specs.Prelude.{ℕ, zero, suc, ◌||◌, Bool, if◌then◌else◌, List, [], ◌∷◌, ◌++◌, length, Option, Some, None}
 use Rattle.em_base.specs.declared.token.Token.{Token}
 use Rattle.em_tree.specs.declared.piece.Piece.TheVariants as p
-use Rattle.em_macro.specs.declared.matched.Taken.{Taken}
-use Rattle.em_macro.specs.declared.rules.Matcher.{Matcher, out-Matcher}
+use Rattle.em_macro.specs.declared.rules.Matcher.{out-Matcher}
 use Rattle.em_macro.specs.declared.rules.Matcher.TheOpen.{Matcher-F}
-use Rattle.em_macro.specs.declared.matched.Bound.{Bound}
 use Rattle.em_macro.specs.declared.matched.Bound.TheVariants as b
-use Rattle.em_macro.specs.declared.matched.Binding.{Binding}
 use Rattle.em_tree.specs.Starts.{Pieces}
-use Rattle.em_macro.specs.Match.{Name, Reading, Matchers, Bindings, Node, Outcome, Takes, CannotStart, NoPrefix, TooDeep, same, is_next, binding, gather, names, first, continues}
+use Rattle.em_macro.specs.Match.{Name, Reading, Matchers, Bindings, Node, Outcome, Takes, CannotStart, NoPrefix, TooDeep, same, binding, gather, names, first, continues}
 
 pub data Out (T : Type 0) : Type 0 where
   Done : T → Pieces → Out T

@@ -5,7 +5,7 @@ use Rattle.em_base.specs.declared.place.Mark.{Mark}
 use Rattle.em_base.specs.declared.place.Span.{Span}
 use Rattle.em_tree.specs.declared.piece.FragmentKind.{FragmentKind}
 use Rattle.em_tree.specs.declared.piece.FragmentKind.TheVariants as fk
-use Rattle.em_tree.specs.declared.piece.Group.{Group, roll-Group}
+use Rattle.em_tree.specs.declared.piece.Group.{roll-Group}
 use Rattle.em_tree.specs.declared.piece.Piece.{Piece}
 use Rattle.em_tree.specs.declared.piece.Piece.TheVariants as p
 use Rattle.em_macro.specs.declared.rules.Transcriber.{Transcriber, out-Transcriber}

@@ -1,6 +1,5 @@
-use Rattle.std.proofs.Common.{◌≡◌, ℕ, ◌<◌, ◌+◌, [], length, drop, get_or, subst, sym, rules, arith, below_more}
+use Rattle.std.proofs.Common.{◌≡◌, ◌<◌, [], length, drop, rules, arith}
 use Rattle.std.proofs.lemmas.Grind.{common_steps}
-use Rattle.em_macro.specs.declared.rules.Arm.{Arm}
 use Rattle.em_macro.specs.Match.{Decidable, at_end, levels}
 use Rattle.em_macro.specs.Run.{run, Done, Fails, Breaks, Deep}
 use Rattle.em_macro.specs.Choose.{Matches, IsBroken, IsTooDeep, Misses}

@@ -1,4 +1,4 @@
-use Rattle.std.proofs.Common.{◌≡◌, ℕ, ◌<◌, get_or}
+use Rattle.std.proofs.Common.{ℕ, ◌<◌, get_or}
 use Rattle.em_macro.specs.declared.rules.Arm.{Arm}
 use Rattle.em_macro.specs.Choose.{Misses}
 use Rattle.em_macro.specs.Reads.{ReadBefore}

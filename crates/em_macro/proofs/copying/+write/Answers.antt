@@ -1,7 +1,7 @@
-use Rattle.std.proofs.Common.{◌≡◌, ◌<◌, ◌-◌, ◌++◌, Err, Some, map, ap, ◌∙◌, rules, arith}
+use Rattle.std.proofs.Common.{◌≡◌, ◌<◌, ◌-◌, Err, ap, ◌∙◌, rules, arith}
 use Rattle.std.proofs.lemmas.Grind.{common_steps}
 use Rattle.std.proofs.lemmas.List.{drop_all}
-use Rattle.em_macro.specs.Write.{uses, written, nth, between}
+use Rattle.em_macro.specs.Write.{uses, written}
 use Rattle.em_macro.proofs.Turns.{deeper}
 use Rattle.em_macro.proofs.WriteTurns.{writes_by, write_goes, write_stops, write_ends, copy_goes, copy_stops, copy_ends}
 use Rattle.em_macro.proofs.copying.+write.Goals as goal

@@ -1,4 +1,4 @@
-use Rattle.std.proofs.Common.{◌≡◌, ◌-◌, ◌<◌, ◌++◌, drop}
+use Rattle.std.proofs.Common.{◌≡◌, ◌-◌, ◌<◌, drop}
 use Rattle.em_macro.specs.Write.{uses, copies, write_all, written}
 use Rattle.em_macro.proofs.copying.+write.Given as goal
 

@@ -1,8 +1,8 @@
-use Rattle.std.proofs.Common.{◌≡◌, List, ◌<◌, ◌≤◌, ◌-◌, ◌+◌, ◌∷◌, ◌++◌, length, drop, suc, ap, sym, subst, ◌∙◌, Err, rules, arith}
+use Rattle.std.proofs.Common.{◌≡◌, List, ◌<◌, ◌-◌, ◌++◌, drop, ap, sym, ◌∙◌, Err, rules, arith}
 use Rattle.std.proofs.lemmas.Grind.{common_steps}
 use Rattle.std.proofs.lemmas.List.{drop_all, append-nil}
 use Rattle.em_macro.specs.Match.{Bindings, names, first}
-use Rattle.em_macro.specs.Run.{run, all, copies, and_then, Done}
+use Rattle.em_macro.specs.Run.{run, copies}
 use Rattle.em_macro.specs.Reads.{fragments_of, log, log_all, log_copies}
 use Rattle.em_macro.proofs.Turns.{one_more, no_more, deeper}
 use Rattle.em_macro.proofs.Passing.{all_goes, all_stops, all_ends, copies_stop, gives_by, begins}

@@ -1,4 +1,4 @@
-use Rattle.std.proofs.Common.{◌≡◌, ◌-◌, ◌<◌, ◌≤◌, ◌++◌, [], suc, length, drop}
+use Rattle.std.proofs.Common.{◌≡◌, ◌-◌, ◌<◌, ◌++◌, [], suc, length, drop}
 use Rattle.em_macro.specs.Match.{names, first}
 use Rattle.em_macro.specs.Run.{and_then, Done, run, all, copies}
 use Rattle.em_macro.specs.Reads.{fragments_of, log, log_all, log_copies}
