@@ -1,0 +1,14 @@
+pub mod Turns
+pub mod Fronts
+pub mod Start
+pub mod Sound
+pub mod Complete
+pub mod Stops
+pub mod Passing
+pub mod Gathering
+pub mod Arms
+pub mod WriteTurns
+pub mod Agreeing
+pub mod Within
+pub mod Logging
+pub mod Putting
