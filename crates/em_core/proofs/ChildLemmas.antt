@@ -1,8 +1,7 @@
 -- The bodies of arms, by number.
-use Rattle.std.proofs.Common.{◌≡◌, ℕ, zero, suc, ◌<◌, ◌≤◌, List, [], ◌∷◌, length, map, Some, None, refl, arith}
+use Rattle.std.proofs.Common.{◌≡◌, ℕ, zero, suc, ◌<◌, List, [], ◌∷◌, length, map, Some, None, refl, arith}
 use Rattle.std.specs.Prelude.{slice_get, slice_index_or}
 use Rattle.em_core.specs.declared.expr.Arm.{Arm, out-Arm}
-use Rattle.em_core.specs.declared.expr.Expr.{Expr}
 
 pub arm_there : (arms : List Arm) (k : ℕ) (d : Arm) → k < length arms → Some (out-Arm (slice_index_or arms k d)).body ≡ slice_get (map (λ x. (out-Arm x).body) arms) k
 arm_there [] k d h = absurd (grind arith)

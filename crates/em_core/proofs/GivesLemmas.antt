@@ -12,12 +12,12 @@ use Rattle.em_core.specs.Rules
 use Rattle.em_core.specs.Rules.{Gives, GivesAll, type_given, Asks, may_end, in_loop}
 use Rattle.em_core.specs.Deciding.{Finds, FindsByOperands, FindsAll}
 
-take_more : (es : List Expr) (k : ℕ) (c : Expr) → slice_get es k ≡ Some c → take (suc k) es ≡ take k es ++ c ∷ []
+pub take_more : (es : List Expr) (k : ℕ) (c : Expr) → slice_get es k ≡ Some c → take (suc k) es ≡ take k es ++ c ∷ []
 take_more [] k c q = absurd cc
 take_more (e ∷ es) zero c q = let h : e ≡ c = cc in ap (λ x. x ∷ []) h
 take_more (e ∷ es) (suc k) c q = ap (λ xs. e ∷ xs) (take_more es k c q)
 
-take_whole : (es : List Expr) (k : ℕ) → slice_get es k ≡ None → take k es ≡ es
+pub take_whole : (es : List Expr) (k : ℕ) → slice_get es k ≡ None → take k es ≡ es
 take_whole [] zero q = refl
 take_whole [] (suc k) q = refl
 take_whole (e ∷ es) zero q = absurd cc

@@ -1,10 +1,9 @@
 -- Where a value of one type may stand for another, and what constants, operators, formats and iterators ask of types (Reference, "Type coercions", "Operator expressions"). Nothing here looks at a Core.
-use Rattle.std.specs.Prelude.{◌≡◌, ◌⊎◌, ℕ, Bool, true, false, not, List, [], ◌∷◌, Option, Some, None, IsTrue, All, find, ◌<◌, length, slice_index_or, slice_get, unwrap_or, count_by, ◌-◌, if◌then◌else◌, ⊤}
+use Rattle.std.specs.Prelude.{◌≡◌, ◌⊎◌, ℕ, Bool, true, false, not, List, Option, Some, None, IsTrue, All, find, ◌<◌, length, slice_index_or, slice_get, unwrap_or, count_by, ◌-◌, if◌then◌else◌}
 use Rattle.std.specs.List.{list_any}
 use Rattle.em_core.specs.declared.ty.Ty.{Ty, out-Ty}
 use Rattle.em_core.specs.declared.ty.Ty as ty
 use Rattle.em_core.specs.declared.ty.Ty.TheOpen.{Ty-F}
-use Rattle.em_base.specs.declared.int_kind.IntKind.{IntKind}
 use Rattle.em_core.specs.declared.ty.ClosureKind.{ClosureKind}
 use Rattle.em_core.specs.declared.ty.ClosureKind.TheVariants.{Fn, FnMut, FnOnce}
 use Rattle.em_core.specs.declared.expr.Piece.{Piece}
@@ -34,6 +33,14 @@ is_int _ = false
 abbrev pub is_str : Ty-F Ty → Bool
 is_str Ty-F.Str = true
 is_str _ = false
+
+abbrev pub is_closure : Ty-F Ty → Bool
+is_closure (Ty-F.Closure id copy drop_free refers) = true
+is_closure _ = false
+
+abbrev pub is_closure_object : Ty-F Ty → Bool
+is_closure_object (Ty-F.DynFn k ts t) = true
+is_closure_object _ = false
 
 -- Str, Slice, Dyn and DynFn stand only behind Ref or Boxed
 abbrev pub is_sized : Ty-F Ty → Bool

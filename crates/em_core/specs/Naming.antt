@@ -5,7 +5,6 @@ use Rattle.em_core.specs.declared.ty.Ty.TheOpen.{Ty-F}
 use Rattle.em_base.specs.declared.int_kind.IntKind.{IntKind}
 use Rattle.em_base.specs.declared.int_kind.IntKind.TheVariants.{Usize}
 use Rattle.em_core.specs.declared.ty.ClosureKind.{ClosureKind}
-use Rattle.em_core.specs.declared.definition.TypeDef.{TypeDef}
 use Rattle.em_core.specs.declared.definition.Variant.{Variant}
 use Rattle.em_core.specs.declared.expr.Arm.{Arm, out-Arm}
 use Rattle.em_core.specs.declared.operator.Constant.{Constant}

@@ -1,6 +1,6 @@
 -- The nodes of an expression and of a type, by child numbers.
 use Rattle.std.specs.Prelude.{ℕ, List, [], ◌∷◌, map, Option, Some, slice_get, option_and_then}
-use Rattle.em_core.specs.declared.ty.Ty.{Ty, out-Ty}
+use Rattle.em_core.specs.declared.ty.Ty.{Ty}
 use Rattle.em_core.specs.declared.ty.Ty.TheOpen.{Ty-F}
 use Rattle.em_core.specs.declared.expr.Arm.{Arm, out-Arm}
 use Rattle.em_core.specs.declared.expr.Expr.{Expr, out-Expr}

@@ -1,5 +1,5 @@
 -- The types of expressions: for each form, what it gives and what it asks of its operands (Reference, "Expressions").
-use Rattle.std.specs.Prelude.{◌≡◌, ℕ, ◌<◌, Bool, true, false, ◌||◌, if◌then◌else◌, List, [], ◌∷◌, length, Option, Some, None, IsTrue, IsSomeAnd, All, slice_get, option_map, option_and_then, ⊤}
+use Rattle.std.specs.Prelude.{◌≡◌, ◌<◌, Bool, true, false, ◌||◌, if◌then◌else◌, List, [], ◌∷◌, length, Option, Some, None, IsTrue, IsSomeAnd, All, slice_get, option_map, option_and_then, ⊤}
 use Rattle.em_core.specs.declared.ty.Ty.{Ty, out-Ty}
 use Rattle.em_core.specs.declared.ty.Ty as ty
 use Rattle.em_core.specs.declared.ty.ClosureKind.TheVariants.{FnMut, FnOnce}
@@ -10,10 +10,10 @@ use Rattle.em_core.specs.declared.expr.Piece.{Piece}
 use Rattle.em_core.specs.declared.function.Variable.{Variable}
 use Rattle.em_core.specs.declared.program.Core.{Core}
 use Rattle.em_core.specs.Facts.{closure_of}
-use Rattle.em_core.specs.Fitting.{Fits, AllFit, EachFits, EachIs, branch_type, BranchesFit, sequence_type, constant_type, constant_fits, unary_takes, binary_takes, is_bool, is_compared, is_shown, is_sized, argument_count, item_type, range_type, iterator_type, reference_iterator_type}
-use Rattle.em_core.specs.Naming.{ObjectFits, variant_at, place_type, VariableStands, kind_of, result_of, unboxed, MayCall, Unsizes, ArmFits}
+use Rattle.em_core.specs.Fitting.{AllFit, EachFits, EachIs, branch_type, BranchesFit, sequence_type, constant_type, constant_fits, unary_takes, binary_takes, is_bool, is_compared, is_shown, is_sized, argument_count, item_type, range_type, iterator_type, reference_iterator_type}
+use Rattle.em_core.specs.Naming.{ObjectFits, variant_at, place_type, VariableStands, result_of, unboxed, MayCall, Unsizes, ArmFits}
 use Rattle.em_core.specs.Nodes.{children}
-use Rattle.em_core.specs.Types.{IsCopy, TypeOk, ValueTypeOk}
+use Rattle.em_core.specs.Types.{IsCopy, ValueTypeOk}
 
 abbrev pub first_type : List Ty → Option Ty
 first_type [] = None

@@ -1,5 +1,5 @@
 -- Typed: a Core's numbers name what it has, and each expression gives and takes values of the types that its place asks. It speaks of the Core alone and of no run.
-use Rattle.std.specs.Prelude.{◌≡◌, ◌≢◌, ◌⊎◌, ◌↔◌, ℕ, ◌<◌, ◌≤◌, Bool, true, false, List, [], ◌∷◌, ◌++◌, length, take, map, Option, Some, None, not, is_none, slice_index_or, IsTrue, IfSome, IsSomeAnd, MatchBool, All, AllPairs, Any, slice_get, find, option_and_then, ◌==◌, ⊤}
+use Rattle.std.specs.Prelude.{◌≡◌, ◌≢◌, ◌⊎◌, ◌↔◌, ℕ, ◌<◌, ◌≤◌, Bool, true, false, List, [], ◌∷◌, ◌++◌, length, map, Option, Some, None, not, is_none, slice_index_or, IsTrue, IsSomeAnd, All, AllPairs, Any, slice_get, find, option_and_then, ◌==◌, ⊤}
 use Rattle.em_core.specs.declared.ty.Ty.{Ty, out-Ty}
 use Rattle.em_core.specs.declared.ty.Ty as ty
 use Rattle.em_core.specs.declared.ty.Ty.TheOpen.{Ty-F}
@@ -12,7 +12,6 @@ use Rattle.em_core.specs.declared.function.Capture.{Capture}
 use Rattle.em_core.specs.declared.function.Variable.{Variable}
 use Rattle.em_core.specs.declared.function.Function.{Function}
 use Rattle.em_core.specs.declared.function.ClosureEntry.{ClosureEntry}
-use Rattle.em_core.specs.declared.mention.By.{By}
 use Rattle.em_core.specs.declared.mention.By.TheVariants as by
 use Rattle.em_core.specs.declared.methods.Impl.{Impl}
 use Rattle.em_core.specs.declared.methods.ImplFunction.{ImplFunction}
@@ -97,6 +96,13 @@ is_impl_type Ty-F.Char = true
 is_impl_type Ty-F.Unit = true
 is_impl_type _ = false
 
+unfoldable pub SameImpl : Impl → Impl → Type 0
+SameImpl i j = (i.of ≡ j.of) × (i.ty ≡ j.ty)
+
+-- one impl per trait and type
+unfoldable pub OneImpl : List Impl → Type 0
+OneImpl impls = AllPairs (λ i j. SameImpl i j → ⊥) impls
+
 -- ---- the Drop of a type
 
 abbrev pub is_unique_def : ℕ → Ty-F Ty → Bool
@@ -134,14 +140,27 @@ module _ (core : Core) where
   unfoldable pub RefersCapture : Ty → Capture → Type 0
   RefersCapture t c = (c.by ≢ by.Value) ⊎ HoldsReference core t
 
+  unfoldable pub CopyVariable : Variable → Type 0
+  CopyVariable x = All (λ c. CopyCapture x.ty c) x.captures
+
+  unfoldable pub DropFreeVariable : Variable → Type 0
+  DropFreeVariable x = All (λ c. DropFreeCapture x.ty c) x.captures
+
+  unfoldable pub RefersVariable : Variable → Type 0
+  RefersVariable x = Any (λ c. RefersCapture x.ty c) x.captures
+
   -- the type says rightly whether the closure is Copy, is drop-free and holds a reference
-  pub record FlagsFit (e : ClosureEntry) (copy drop_free refers : Bool) : Type 0 where
-    pub says_copy : (copy ≡ true) ↔ All (λ x. All (CopyCapture x.ty) x.captures) e.variables
-    pub says_drop_free : (drop_free ≡ true) ↔ All (λ x. All (DropFreeCapture x.ty) x.captures) e.variables
-    pub says_refers : (refers ≡ true) ↔ Any (λ x. Any (RefersCapture x.ty) x.captures) e.variables
+  unfoldable pub SaysCopy : List Variable → Bool → Type 0
+  SaysCopy xs copy = (copy ≡ true) ↔ All (λ x. CopyVariable x) xs
+
+  unfoldable pub SaysDropFree : List Variable → Bool → Type 0
+  SaysDropFree xs drop_free = (drop_free ≡ true) ↔ All (λ x. DropFreeVariable x) xs
+
+  unfoldable pub SaysRefers : List Variable → Bool → Type 0
+  SaysRefers xs refers = (refers ≡ true) ↔ Any (λ x. RefersVariable x) xs
 
   unfoldable pub ClosureTypeFits : ClosureEntry → Ty-F Ty → Type 0
-  ClosureTypeFits e (Ty-F.Closure id copy drop_free refers) = (id ≡ e.id) × FlagsFit e copy drop_free refers
+  ClosureTypeFits e (Ty-F.Closure id copy drop_free refers) = (id ≡ e.id) × SaysCopy e.variables copy × SaysDropFree e.variables drop_free × SaysRefers e.variables refers
   ClosureTypeFits e _ = ⊥
 
   -- ---- bodies
@@ -232,16 +251,13 @@ module _ (core : Core) where
   ProvidesAll i = (m : ℕ) (x : Method) → slice_get core.methods.methods m ≡ Some x → Provides i m x
 
   unfoldable pub ImplOk : Impl → Type 0
-  ImplOk i = IsTrue (is_impl_type (out-Ty i.ty)) × TypeOk core i.ty × All (λ f. ImplFunctionOk i f) i.functions × AllPairs (λ f g. f.method ≢ g.method) i.functions × ProvidesAll i
+  ImplOk i = IsTrue (is_impl_type (out-Ty i.ty)) × TypeOk core i.ty × All (λ f. ImplFunctionOk i f) i.functions × AllDifferent (map (λ f. f.method) i.functions) × ProvidesAll i
 
   -- ---- the whole
 
   unfoldable pub EntryOk : Option ℕ → Type 0
   EntryOk None = ⊤
   EntryOk (Some f) = IsSomeAnd (slice_get core.functions f) (λ g. IsEntry g)
-
-  unfoldable pub SameImpl : Impl → Impl → Type 0
-  SameImpl i j = (i.of ≡ j.of) × (i.ty ≡ j.ty)
 
   pub record Typed : Type 0 where
     pub types : (d : ℕ) (x : TypeDef) → slice_get core.types d ≡ Some x → DefOk d x
@@ -250,6 +266,5 @@ module _ (core : Core) where
     pub closures : AllDifferent (map (λ e. e.id) (closures_of core))
     pub methods : All (λ x. MethodOk x) core.methods.methods
     pub impls : All (λ i. ImplOk i) core.methods.impls
-    -- one impl per trait and type
-    pub one_impl : AllPairs (λ i j. SameImpl i j → ⊥) core.methods.impls
+    pub one_impl : OneImpl core.methods.impls
     pub entry : EntryOk core.entry

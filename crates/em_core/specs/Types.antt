@@ -38,24 +38,24 @@ module _ (core : Core) where
     reference : {t i : Ty} → out-Ty t ≡ Ty-F.RefIter i → IsPart u i → IsPart u t
 
   -- a type with a Drop impl, a trait object, whose value may have one, and a closure that says so
-  abbrev pub Drops : Ty-F Ty → Type 0
+  unfoldable pub Drops : Ty-F Ty → Type 0
   Drops (Ty-F.Def d) = IsSome (drop_of core d)
-  Drops (Ty-F.Dyn n) = Unit {0}
-  Drops (Ty-F.DynFn kind ts t) = Unit {0}
+  Drops (Ty-F.Dyn n) = ⊤
+  Drops (Ty-F.DynFn kind ts t) = ⊤
   Drops (Ty-F.Closure id copy drop_free refers) = drop_free ≡ false
   Drops _ = ⊥
 
-  abbrev pub IsDropFree : Ty → Type 0
+  unfoldable pub IsDropFree : Ty → Type 0
   IsDropFree t = (u : Ty) → IsPart u t → Drops (out-Ty u) → ⊥
 
   -- a reference, a closure trait's object, and a closure that says so
-  abbrev pub Refers : Ty-F Ty → Type 0
-  Refers (Ty-F.Ref t unique) = Unit {0}
-  Refers (Ty-F.DynFn kind ts t) = Unit {0}
+  unfoldable pub Refers : Ty-F Ty → Type 0
+  Refers (Ty-F.Ref t unique) = ⊤
+  Refers (Ty-F.DynFn kind ts t) = ⊤
   Refers (Ty-F.Closure id copy drop_free refers) = refers ≡ true
   Refers _ = ⊥
 
-  abbrev pub HoldsReference : Ty → Type 0
+  unfoldable pub HoldsReference : Ty → Type 0
   HoldsReference t = (u : Ty) × (IsPart u t) × Refers (out-Ty u)
 
   -- ---- the types that a Core may name

@@ -10,7 +10,8 @@ ghost use Rattle.em_core.specs.Examples.Drops.{owner_first, fields, moved_into_c
 ghost use Rattle.em_core.specs.Examples.Panics.{panic_in_part, unwinding, panic_in_drop, abort, panic_in_assignment, panic_value, operation, negation, least, indexed};
 ghost use Rattle.em_core.specs.Examples.Closures.{whole_variable, one_field, whole_value, copied_field, counter, two_ways, boxed_once, nested_whole, nested_field, capture_order};
 ghost use Rattle.em_core.specs.Examples.Values.{by_value, broken_off, by_reference, counted, returns, matched_by_move, matched_by_reference, failing_let, trait_object, formats, kinds, complements};
-ghost use Rattle.em_core.specs.Examples.Types.{InMain, whole_main, no_slot};
+ghost use Rattle.em_core.specs.Examples.Types.{InMain, whole_main, no_slot, slot_out_of_range};
+ghost use Rattle.em_core.specs.Typed.{Typed};
 ghost use Rattle.em_core.specs.declared.ty.Ty.{Ty, Unit};
 ghost use Rattle.em_core.specs.Examples.Places.{repeated, written_through, sliced, partly_moved, out_of_box, ended_frame, closed_scope};
 
@@ -111,4 +112,11 @@ pub fn patterns_and_complements()
 pub fn types_fit()
     ensures whole_main { InMain whole_main Unit false }
     ensures no_slot { (t : Ty) (ends : Bool) → InMain no_slot t ends → ⊥ }
+{}
+
+/// Whole Cores are typed, one with a trait object and one with a closure that holds a value with a Drop impl; a Core that names a slot out of range is not.
+pub fn cores_typed()
+    ensures trait_object { Typed trait_object }
+    ensures boxed_once { Typed boxed_once }
+    ensures slot_out_of_range { Typed slot_out_of_range → ⊥ }
 {}

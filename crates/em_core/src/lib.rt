@@ -25,8 +25,8 @@ pub use em_base::IntKind;
 pub use expr::{Arm, Expr, Piece};
 pub use function::{Capture, ClosureEntry, FieldStep, Function, Variable};
 pub use laws::{
-    closures_capture, closures_in_order, control_and_values, drops_in_order, operators_panic,
-    panics_unwind, patterns_and_complements, places_lead, types_fit,
+    closures_capture, closures_in_order, control_and_values, cores_typed, drops_in_order,
+    operators_panic, panics_unwind, patterns_and_complements, places_lead, types_fit,
 };
 pub use mention::{By, Closure, Mention, Mentioned, PathStep};
 pub use methods::{Impl, ImplFunction, Method, Methods, Owner, Receiver, Signature};
@@ -37,4 +37,4 @@ pub use place::{Base, PlaceExpr, PlaceStep};
 pub use program::{Core, Difference};
 pub use same::{same_type, same_types};
 pub use ty::{ClosureKind, Ty};
-pub use typed::{body_ok, def_ok, entry_ok, method_ok};
+pub use typed::{body_ok, def_ok, entry_ok, is_typed, method_ok};

@@ -1,4 +1,6 @@
 ghost use Rattle.std.specs.Prelude.{◌≡◌, ◌↔◌, IsTrue};
+ghost use Rattle.em_core.specs.declared.ty.Ty.{out-Ty};
+ghost use Rattle.em_core.specs.Fitting as fitting;
 
 use crate::ty::Ty;
 
@@ -7,102 +9,87 @@ use crate::ty::Ty;
 pub fn same_type(a: &Ty, b: &Ty) -> bool
     ensures { IsTrue result ↔ (a.now ≡ b.now) }
 {
-    match a {
-        Ty::Int(kind) => match b {
-            Ty::Int(other) => kind == other,
-            _ => false,
-        },
-        Ty::Bool => match b {
-            Ty::Bool => true,
-            _ => false,
-        },
-        Ty::Char => match b {
-            Ty::Char => true,
-            _ => false,
-        },
-        Ty::Str => match b {
-            Ty::Str => true,
-            _ => false,
-        },
-        Ty::Unit => match b {
-            Ty::Unit => true,
-            _ => false,
-        },
-        Ty::Never => match b {
-            Ty::Never => true,
-            _ => false,
-        },
-        Ty::Def(def) => match b {
-            Ty::Def(other) => def == other,
-            _ => false,
-        },
-        Ty::Array(element, length) => match b {
-            Ty::Array(other, other_length) => length == other_length
-                && same_type(element.get(), other.get()),
-            _ => false,
-        },
-        Ty::Slice(element) => match b {
-            Ty::Slice(other) => same_type(element.get(), other.get()),
-            _ => false,
-        },
-        Ty::Ref { to, unique } => match b {
+    match (a, b) {
+        (Ty::Int(kind), Ty::Int(other)) => kind == other,
+        (Ty::Bool, Ty::Bool) => true,
+        (Ty::Char, Ty::Char) => true,
+        (Ty::Str, Ty::Str) => true,
+        (Ty::Unit, Ty::Unit) => true,
+        (Ty::Never, Ty::Never) => true,
+        (Ty::Def(def), Ty::Def(other)) => def == other,
+        (Ty::Array(element, length), Ty::Array(other, count)) => {
+            length == count && same_type(element.get(), other.get())
+        }
+        (Ty::Slice(element), Ty::Slice(other)) => same_type(element.get(), other.get()),
+        (
+            Ty::Ref { to, unique },
             Ty::Ref {
                 to: other,
-                unique: other_unique,
-            } => unique == other_unique && same_type(to.get(), other.get()),
-            _ => false,
-        },
-        Ty::Boxed(content) => match b {
-            Ty::Boxed(other) => same_type(content.get(), other.get()),
-            _ => false,
-        },
-        Ty::Dyn(of) => match b {
-            Ty::Dyn(other) => of == other,
-            _ => false,
-        },
-        Ty::DynFn {
-            kind,
-            arguments,
-            result,
-        } => match b {
+                unique: way,
+            },
+        ) => unique == way && same_type(to.get(), other.get()),
+        (Ty::Boxed(content), Ty::Boxed(other)) => same_type(content.get(), other.get()),
+        (Ty::Dyn(of), Ty::Dyn(other)) => of == other,
+        (Ty::DynFn { .. }, _) => same_object(a, b),
+        (Ty::Closure { .. }, _) => same_closure(a, b),
+        (Ty::ArrayIter(item), Ty::ArrayIter(other)) => same_type(item.get(), other.get()),
+        (Ty::RefIter(item), Ty::RefIter(other)) => same_type(item.get(), other.get()),
+        (Ty::Range(kind), Ty::Range(other)) => kind == other,
+        _ => false,
+    }
+}
+
+/// Whether the object type of a closure trait is another type.
+#[cycle(same)]
+fn same_object(a: &Ty, b: &Ty) -> bool
+    ensures { IsTrue (fitting.is_closure_object (out-Ty a.now)) → (IsTrue result ↔ (a.now ≡ b.now)) }
+{
+    match (a, b) {
+        (
+            Ty::DynFn {
+                kind,
+                arguments,
+                result,
+            },
             Ty::DynFn {
                 kind: other_kind,
                 arguments: others,
                 result: other,
-            } => kind == other_kind
+            },
+        ) => {
+            kind == other_kind
                 && same_types(arguments.as_slice(), others.as_slice())
-                && same_type(result.get(), other.get()),
-            _ => false,
-        },
-        Ty::Closure {
-            id,
-            copy,
-            drop_free,
-            refers,
-        } => match b {
+                && same_type(result.get(), other.get())
+        }
+        _ => false,
+    }
+}
+
+/// Whether the type of a closure is another type.
+fn same_closure(a: &Ty, b: &Ty) -> bool
+    ensures { IsTrue (fitting.is_closure (out-Ty a.now)) → (IsTrue result ↔ (a.now ≡ b.now)) }
+{
+    match (a, b) {
+        (
+            Ty::Closure {
+                id,
+                copy,
+                drop_free,
+                refers,
+            },
             Ty::Closure {
                 id: other,
                 copy: other_copy,
                 drop_free: other_drop_free,
                 refers: other_refers,
-            } => id == other
+            },
+        ) => {
+            id == other
                 && copy == other_copy
                 && drop_free == other_drop_free
-                && refers == other_refers,
-            _ => false,
-        },
-        Ty::ArrayIter(item) => match b {
-            Ty::ArrayIter(other) => same_type(item.get(), other.get()),
-            _ => false,
-        },
-        Ty::RefIter(item) => match b {
-            Ty::RefIter(other) => same_type(item.get(), other.get()),
-            _ => false,
-        },
-        Ty::Range(kind) => match b {
-            Ty::Range(other) => kind == other,
-            _ => false,
-        },
+                && refers == other_refers
+        }
+        _ => false,
     }
 }
 

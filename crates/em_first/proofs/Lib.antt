@@ -6,3 +6,6 @@ pub mod Taken
 pub mod Keeps
 pub mod Edits
 pub mod TheSample
+pub mod SignNames
+pub mod SpelledKinds
+pub mod ProgramFiles

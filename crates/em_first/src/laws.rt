@@ -1,4 +1,4 @@
-ghost use Rattle.em_first.specs.Laws.{EditedLexes, FindingsFit, KeepsCore, KeepsEvents, NothingLeft, OneCore};
+ghost use Rattle.em_first.specs.Laws.{EditedLexes, FindingsFit, KeepsCore, KeepsEvents, NothingLeft, OneCore, ProgramsAreFiles};
 ghost use Rattle.em_first.specs.Sample.{HasSample, KeepsSample, SampleBegins, SamplePrints};
 
 use em_edit::{first_part_first, no_part_keeps};
@@ -41,6 +41,11 @@ pub fn edited_text_lexes()
 /// Both programs print the same, after any number of statements.
 pub fn events_are_kept()
     ensures { KeepsEvents }
+{}
+
+/// The tokens of a text that are a program of the first form are a file of the grammar.
+pub fn programs_are_files()
+    ensures { ProgramsAreFiles }
 {}
 
 /// A program of the first form, and what it prints, so that the laws speak of something.

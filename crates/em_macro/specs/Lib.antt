@@ -4,3 +4,9 @@ pub mod Given
 pub mod Reads
 pub mod Choose
 pub mod Write
+pub mod OnePiece
+pub mod Measure
+pub mod Form
+pub mod Steps
+pub mod Sound
+pub mod Starters

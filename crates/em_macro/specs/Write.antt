@@ -1,5 +1,5 @@
 -- What a transcriber writes with its variables bound (Reference, "Transcribing"): substitution, with repetitions in step.
-use Rattle.std.specs.Prelude.{◌≡◌, ℕ, zero, suc, ◌+◌, nat_eq, Bool, true, false, if◌then◌else◌, List, [], ◌∷◌, ◌++◌, length, map, slice_get, slice_index_or, Option, Some, None, Result, Ok, Err}
+use Rattle.std.specs.Prelude.{◌≡◌, ℕ, zero, suc, ◌+◌, ◌-◌, ◌^◌, min, nat_eq, Bool, true, false, if◌then◌else◌, List, [], ◌∷◌, ◌++◌, length, map, slice_get, slice_index_or, Option, Some, None, Result, Ok, Err}
 use Rattle.em_base.specs.declared.token.Token.{Token}
 use Rattle.em_base.specs.declared.place.Mark.{Mark}
 use Rattle.em_base.specs.declared.place.Span.{Span}
@@ -148,3 +148,15 @@ Copied out (Err ce.NoMemory) = Unit {0}
 -- what the chosen arm writes
 abbrev pub Transcribes : List Arm → Matched → Mark → Result Pieces CopyError → Type 0
 Transcribes arms m mark r = (d : Arm) → Copied (written mark levels (slice_index_or arms m.arm d).transcriber m.bindings []) r
+
+-- how many pieces copying gives, up to the greatest number that a `u64` holds, and a fault of lengths exactly where it
+-- gives none
+abbrev pub Measured : Option Pieces → Result ℕ CopyError → Type 0
+Measured (Some pieces) (Ok n) = n ≡ min (length pieces) (2 ^ 64 - 1)
+Measured None (Ok n) = ⊥
+Measured out (Err ce.Lengths) = out ≡ None
+Measured out (Err ce.NoMemory) = Unit {0}
+
+-- how many pieces the chosen arm writes, with whatever mark
+abbrev pub Measures : List Arm → Matched → Result ℕ CopyError → Type 0
+Measures arms m r = (d : Arm) (mark : Mark) → Measured (written mark levels (slice_index_or arms m.arm d).transcriber m.bindings []) r

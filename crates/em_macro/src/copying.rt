@@ -65,7 +65,7 @@ fn nth_of(k: usize, bound: &Bound) -> Result<Bound, NoMemory>
 }
 
 /// The bindings of the k-th copy.
-fn nth(alloc: Global, k: usize, bindings: &[Binding]) -> Result<Items<Binding>, NoMemory>
+pub fn nth(alloc: Global, k: usize, bindings: &[Binding]) -> Result<Items<Binding>, NoMemory>
     ensures { IfOk result (λ x. x ≡ map (spec.nth k) bindings.now) }
 {
     let mut found = Items::new(alloc);
@@ -100,7 +100,11 @@ fn uses_node(
 
 /// The variables that the transcriber names.
 #[cycle(uses)]
-fn uses(depth: usize, transcribers: &[Transcriber], found: &mut Items<Name>) -> Result<(), NoMemory>
+pub fn uses(
+    depth: usize,
+    transcribers: &[Transcriber],
+    found: &mut Items<Name>,
+) -> Result<(), NoMemory>
     ensures { OnOk result (found.new ≡ found.old ++ spec.uses depth transcribers.now) }
 {
     if depth == 0 {
@@ -112,7 +116,7 @@ fn uses(depth: usize, transcribers: &[Transcriber], found: &mut Items<Name>) -> 
     Ok(())
 }
 
-fn steps_for(alloc: Global, names: &[Name], bindings: &[Binding]) -> Result<Steps, NoMemory>
+pub fn steps_for(alloc: Global, names: &[Name], bindings: &[Binding]) -> Result<Steps, NoMemory>
     ensures { IfOk result (λ x. x ≡ spec.steps names.now bindings.now) }
 {
     let mut found = Steps::Any;

@@ -42,6 +42,28 @@ pub enum Stop {
     Depth,
 }
 
+impl From<NoMemory> for RulesError {
+    ghost use Rattle.std.specs.Prelude.{◌≡◌};
+    ghost use Rattle.em_macro.specs.declared.error.RulesError.TheVariants as Refusal;
+
+    ghost from_gives = { λ _ e. e ≡ Refusal.NoMemory };
+
+    fn from(_error: NoMemory) -> RulesError {
+        RulesError::NoMemory
+    }
+}
+
+impl From<AllocError> for RulesError {
+    ghost use Rattle.std.specs.Prelude.{◌≡◌};
+    ghost use Rattle.em_macro.specs.declared.error.RulesError.TheVariants as Refusal;
+
+    ghost from_gives = { λ _ e. e ≡ Refusal.NoMemory };
+
+    fn from(_error: AllocError) -> RulesError {
+        RulesError::NoMemory
+    }
+}
+
 impl From<NoMemory> for Stop {
     ghost use Rattle.std.specs.Prelude.{◌≡◌};
     ghost use Rattle.em_macro.specs.declared.error.Stop.TheVariants as Refusal;

@@ -5,13 +5,23 @@
 mod binding;
 mod choosing;
 mod copying;
+mod deciding;
 mod error;
 mod fragments;
 mod matched;
 mod matching;
+mod measuring;
 mod put;
+mod read_matcher;
+mod read_transcriber;
+mod reading;
+mod rule_text;
 mod rules;
+mod signs;
+mod starters;
 mod starting;
+#[cfg(test)]
+mod tests;
 mod tokens;
 
 pub use choosing::{match_call, one_match};
@@ -19,4 +29,6 @@ pub use copying::transcribe;
 pub use error::{CopyError, MacroError, RulesError};
 pub use fragments::Fragments;
 pub use matched::{Binding, Bound, Matched, Taken};
+pub use measuring::copied_len;
+pub use rule_text::read_rules;
 pub use rules::{Arm, Matcher, Rules, Specifier, Transcriber};

@@ -44,18 +44,12 @@ pub fn put_token(
 }
 
 /// The same piece, whose texts and pieces aren't copied.
-fn share_piece(alloc: Global, piece: &Piece) -> Result<Piece, NoMemory>
+pub fn share_piece(alloc: Global, piece: &Piece) -> Result<Piece, NoMemory>
     ensures { IfOk result (λ x. x ≡ piece.now) }
 {
     Ok(match piece {
         Piece::Token(token) => Piece::Token(token.share(alloc)?),
-        Piece::Group(group) => Piece::Group(Group {
-            outer: group.outer,
-            marks: List::from_slice(alloc, group.marks.as_slice())?,
-            kind: group.kind,
-            edition: group.edition,
-            pieces: group.pieces.share()?,
-        }),
+        Piece::Group(group) => Piece::Group(group.share(alloc)?),
     })
 }
 
@@ -68,7 +62,7 @@ fn put_pieces(alloc: Global, pieces: &[Piece], out: &mut List<Piece>) -> Result<
     Ok(())
 }
 
-fn is_plain(kind: FragmentKind) -> bool
+pub fn is_plain(kind: FragmentKind) -> bool
     ensures { result ≡ spec.is_plain kind }
 {
     match kind {

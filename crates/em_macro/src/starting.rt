@@ -19,7 +19,7 @@ fn is_separator(separator: &Option<Token>, pieces: &[Piece]) -> bool
 }
 
 #[cycle(empty)]
-fn empty_node(depth: usize, matcher: &Matcher) -> bool
+pub fn empty_node(depth: usize, matcher: &Matcher) -> bool
     ensures { result ≡ law.empty_node (law.can_be_empty depth) (out-Matcher matcher.now) }
 {
     match matcher {
@@ -35,7 +35,7 @@ fn empty_node(depth: usize, matcher: &Matcher) -> bool
 
 /// Whether the matcher can match nothing.
 #[cycle(empty)]
-fn can_be_empty(depth: usize, matchers: &[Matcher]) -> bool
+pub fn can_be_empty(depth: usize, matchers: &[Matcher]) -> bool
     ensures { result ≡ law.can_be_empty depth matchers.now }
 {
     if depth == 0 {

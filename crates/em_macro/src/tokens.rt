@@ -58,7 +58,7 @@ fn same_spelling(one: &Token, other: &Token) -> bool
 
 /// Whether a token is the one that a matcher wants.
 #[tactic(auto, unfolding(crate::specs::Match::same))]
-fn same(wanted: &Token, token: &Token) -> bool
+pub fn same(wanted: &Token, token: &Token) -> bool
     ensures { result ≡ law.same wanted.now token.now }
 {
     match (&wanted.kind, &token.kind) {

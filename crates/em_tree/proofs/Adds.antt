@@ -1,5 +1,5 @@
 -- The tokens that are added for one node, part by part.
-use Rattle.std.proofs.Common.{◌≡◌, ℕ, suc, zero, ◌+◌, ◌<◌, ◌≤◌, List, [], ◌∷◌, ◌++◌, Option, Some, None, Bool, false, length, drop, get_or, drop-cons, add-one, refl, sym, ap, subst, ◌∙◌, append_assoc, arith}
+use Rattle.std.proofs.Common.{◌≡◌, ◌+◌, List, [], ◌++◌, Option, length, sym, ap, ◌∙◌, append_assoc}
 use Rattle.std.proofs.lemmas.List.{append-nil}
 use Rattle.em_base.specs.declared.token.Token.{Token}
 use Rattle.em_tree.specs.declared.parts.Listed.{Listed}
@@ -7,27 +7,25 @@ use Rattle.em_tree.specs.declared.literal.Literal.{Literal}
 use Rattle.em_tree.specs.declared.types.Path.{Path}
 use Rattle.em_tree.specs.declared.types.TypeTree.{TypeTree}
 use Rattle.em_tree.specs.declared.pat.Pat.{Pat}
-use Rattle.em_tree.specs.declared.pat.TopPat.{TopPat}
 use Rattle.em_tree.specs.declared.expr.Annotation.{Annotation}
 use Rattle.em_tree.specs.declared.expr.FieldExpr.{FieldExpr}
 use Rattle.em_tree.specs.declared.expr.ClosureHead.{ClosureHead}
 use Rattle.em_tree.specs.declared.expr.Condition.{Condition}
-use Rattle.em_tree.specs.declared.expr.Condition.TheVariants as condition
 use Rattle.em_tree.specs.declared.expr.Arm.{Arm}
 use Rattle.em_tree.specs.declared.expr.Refs.{Refs}
 use Rattle.em_tree.specs.declared.expr.Block.{Block}
 use Rattle.em_tree.specs.declared.expr.MacroCall.{MacroCall}
 use Rattle.em_tree.specs.declared.expr.ElseIf.{ElseIf, out-ElseIf}
-use Rattle.em_tree.specs.declared.expr.Expr.{Expr, out-Expr}
+use Rattle.em_tree.specs.declared.expr.Expr.{Expr}
 use Rattle.em_tree.specs.declared.expr.Expr.TheVariants as expr
-use Rattle.em_tree.specs.declared.expr.Stmt.{Stmt, out-Stmt}
+use Rattle.em_tree.specs.declared.expr.Stmt.{Stmt}
 use Rattle.em_tree.specs.declared.expr.Stmt.TheVariants as stmt
 use Rattle.em_tree.specs.declared.expr.Body.{Body, out-Body}
 use Rattle.em_tree.specs.declared.piece.Group.{Group}
 use Rattle.em_tree.specs.declared.writer.Writer.{Writer}
-use Rattle.em_tree.specs.Parts.{maybe, each, leaves, annotation_parts, arm_parts, block_parts, body_parts, closure_head_parts, condition_parts, else_if_parts, expr_parts, field_expr_parts, listed_parts, literal_parts, macro_call_parts, pat_parts, path_parts, refs_parts, stmt_parts, top_pat_parts, type_tree_parts}
+use Rattle.em_tree.specs.Parts.{maybe, each, annotation_parts, arm_parts, block_parts, body_parts, closure_head_parts, condition_parts, else_if_parts, expr_parts, field_expr_parts, listed_parts, literal_parts, macro_call_parts, pat_parts, path_parts, refs_parts, stmt_parts, type_tree_parts}
 use Rattle.em_tree.specs.Yields.{one, inside, opened}
-use Rattle.em_tree.specs.Adding.{Adds, Goes}
+use Rattle.em_tree.specs.Adding.{Adds}
 use Rattle.em_tree.proofs.Puts.{leaves_inside}
 use Rattle.em_tree.proofs.Layers.{at-Expr-Literal, at-Expr-Path, at-Expr-Struct, at-Expr-Paren, at-Expr-Array, at-Expr-Repeat, at-Expr-Block, at-Expr-If, at-Expr-Match, at-Expr-While, at-Expr-Loop, at-Expr-For, at-Expr-Closure, at-Expr-ClosureTo, at-Expr-Macro, at-Expr-Return, at-Expr-Break, at-Expr-Continue, at-Expr-MethodCall, at-Expr-Call, at-Expr-Field, at-Expr-Place, at-Expr-Index, at-Expr-Unary, at-Expr-Ref, at-Expr-RefRef, at-Expr-Binary, at-Expr-Assign, at-Expr-Group, at-Stmt-Mention, at-Stmt-Let, at-Stmt-Macro, at-Stmt-Expr, at-Stmt-BlockLike, at-Stmt-Group, at-Body, at-ElseIf}
 
@@ -57,26 +55,6 @@ adds6 w0 w1 w2 w3 w4 w5 w6 p q r s t u h0 h1 h2 h3 h4 h5 = adds2 w0 w1 w6 p (q +
 
 pub adds7 : (w0 w1 w2 w3 w4 w5 w6 w7 : Writer) (p q r s t u v : List Token) → Adds w0 p w1 → Adds w1 q w2 → Adds w2 r w3 → Adds w3 s w4 → Adds w4 t w5 → Adds w5 u w6 → Adds w6 v w7 → Adds w0 (p ++ (q ++ (r ++ (s ++ (t ++ (u ++ v)))))) w7
 adds7 w0 w1 w2 w3 w4 w5 w6 w7 p q r s t u v h0 h1 h2 h3 h4 h5 h6 = adds2 w0 w1 w7 p (q ++ (r ++ (s ++ (t ++ (u ++ v))))) h0 (adds6 w1 w2 w3 w4 w5 w6 w7 q r s t u v h1 h2 h3 h4 h5 h6)
-
-pub goes_start : (a : Writer) (all : List Token) → Goes a a all all
-goes_start a all ok = (ok, refl)
-
-pub goes_end : {A : Type 0} (f : A → List Token) (a b : Writer) (list : List A) (i : ℕ) → length list ≤ i → Goes a b (each f (drop i list)) (each f list) → Adds a (each f list) b
-goes_end f a b list i past h ok = ((h ok).0, sym (append-nil b.list) ∙ ap (λ r. b.list ++ r) (sym (ap (each f) (drop_all list i past))) ∙ (h ok).1)
-  where
-    drop_all : {A : Type 0} (all : List A) (i : ℕ) → length all ≤ i → drop i all ≡ []
-    drop_all [] zero h = refl
-    drop_all [] (suc i) h = refl
-    drop_all (x ∷ all) zero h = absurd (omega (arith, h))
-    drop_all (x ∷ all) (suc i) h = drop_all all i (omega (arith, h))
-
-pub goes_on : {A : Type 0} (f : A → List Token) (a b c : Writer) (list : List A) (i : ℕ) (x : A) (all : List Token) → i < length list → x ≡ get_or list i x
-    → Goes a b (each f (drop i list)) all → Adds b (f x) c → Goes a c (each f (drop (i + 1) list)) all
-goes_on f a b c list i x all within is h k ok =
-    let cut : drop i list ≡ x ∷ drop (i + 1) list = drop-cons list i x within ∙ ap (λ y. y ∷ drop (suc i) list) (sym is) ∙ ap (λ n. x ∷ drop n list) (sym (add-one i)) in
-    let put = k ok in
-    let before = h put.0 in
-    (before.0, ap (λ r. r ++ each f (drop (i + 1) list)) put.1 ∙ append_assoc b.list (f x) (each f (drop (i + 1) list)) ∙ ap (λ r. b.list ++ each f r) (sym cut) ∙ before.1)
 
 pub adds_expr_literal : (w0 w1 : Writer) (x : Expr) (x0 : Token) → x ≡ expr.Literal x0 → Adds w0 (one x0) w1 → Adds w0 (expr_parts one inside opened x) w1
 adds_expr_literal w0 w1 x x0 is h0 = adds_as w0 w1 (expr_parts one inside opened x) (one x0) (at-Expr-Literal one inside opened x x0 is) (h0)

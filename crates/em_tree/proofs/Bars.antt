@@ -5,7 +5,7 @@ use Rattle.em_base.specs.declared.token.Token.{Token}
 use Rattle.em_tree.specs.declared.piece.Group.{Group, out-Group, fold-Group, fold_out-Group}
 use Rattle.em_tree.specs.declared.piece.PieceList.{PieceList, out-PieceList, fold-PieceList, fold_out-PieceList}
 use Rattle.em_tree.specs.declared.piece.Piece.{Piece, out-Piece, fold-Piece, fold_out-Piece, map-Piece}
-use Rattle.em_tree.specs.declared.piece.Piece.TheOpen.{Piece-F, Group-F, PieceList-F}
+use Rattle.em_tree.specs.declared.piece.Piece.TheOpen.{Piece-F}
 use Rattle.em_tree.specs.declared.piece.Piece.TheVariants as p
 use Rattle.em_tree.specs.Starts.{is_bar, is_spelled, is_pat_kind, kind_of, pieces_of, piece_bar, group_bar, list_bar}
 

@@ -1,75 +1,48 @@
 -- Where the pieces of a node begin and end.
-use Rattle.std.proofs.Common.{◌≡◌, List, [], ◌∷◌, ◌++◌, Option, Some, None, refl, sym, ap, ◌∙◌}
+use Rattle.std.proofs.Common.{◌≡◌, List, [], ◌∷◌, ◌++◌, Option, Some, ap, ◌∙◌}
 use Rattle.std.proofs.lemmas.List.{append-nil}
 use Rattle.em_base.specs.declared.place.Span.{Span}
 use Rattle.em_base.specs.declared.token.Token.{Token}
 use Rattle.em_tree.specs.declared.parts.Listed.{Listed}
 use Rattle.em_tree.specs.declared.piece.Piece.{Piece}
 use Rattle.em_tree.specs.declared.piece.Group.{Group}
-use Rattle.em_tree.specs.declared.piece.Delimited.{Delimited}
-use Rattle.em_tree.specs.declared.literal.Literal.{Literal, out-Literal}
+use Rattle.em_tree.specs.declared.literal.Literal.{Literal}
 use Rattle.em_tree.specs.declared.literal.Literal.TheVariants as literal
-use Rattle.em_tree.specs.declared.types.Segment.{Segment}
-use Rattle.em_tree.specs.declared.types.PathStep.{PathStep}
 use Rattle.em_tree.specs.declared.types.Segments.{Segments}
-use Rattle.em_tree.specs.declared.types.Path.{Path, out-Path}
+use Rattle.em_tree.specs.declared.types.Path.{Path}
 use Rattle.em_tree.specs.declared.types.Path.TheVariants as path
 use Rattle.em_tree.specs.declared.types.Qualified.{Qualified, out-Qualified}
-use Rattle.em_tree.specs.declared.types.Output.{Output, out-Output}
-use Rattle.em_tree.specs.declared.types.Output.TheVariants as output
-use Rattle.em_tree.specs.declared.types.Bound.{Bound, out-Bound}
+use Rattle.em_tree.specs.declared.types.Output.{Output}
+use Rattle.em_tree.specs.declared.types.Bound.{Bound}
 use Rattle.em_tree.specs.declared.types.Bound.TheVariants as bound
-use Rattle.em_tree.specs.declared.types.TypeTree.{TypeTree, out-TypeTree}
+use Rattle.em_tree.specs.declared.types.TypeTree.{TypeTree}
 use Rattle.em_tree.specs.declared.types.TypeTree.TheVariants as type_tree
 use Rattle.em_tree.specs.declared.pat.FieldPat.{FieldPat}
-use Rattle.em_tree.specs.declared.pat.Pat.{Pat, out-Pat}
+use Rattle.em_tree.specs.declared.pat.Pat.{Pat}
 use Rattle.em_tree.specs.declared.pat.Pat.TheVariants as pat
-use Rattle.em_tree.specs.declared.pat.Alternative.{Alternative}
-use Rattle.em_tree.specs.declared.pat.TopPat.{TopPat, out-TopPat}
-use Rattle.em_tree.specs.declared.pat.TopPat.TheVariants as top_pat
 use Rattle.em_tree.specs.declared.expr.Annotation.{Annotation}
 use Rattle.em_tree.specs.declared.expr.FieldExpr.{FieldExpr}
-use Rattle.em_tree.specs.declared.expr.ClosureParam.{ClosureParam}
 use Rattle.em_tree.specs.declared.expr.ClosureHead.{ClosureHead}
 use Rattle.em_tree.specs.declared.expr.Condition.{Condition}
 use Rattle.em_tree.specs.declared.expr.Arm.{Arm}
-use Rattle.em_tree.specs.declared.expr.Reference.{Reference}
 use Rattle.em_tree.specs.declared.expr.Refs.{Refs}
 use Rattle.em_tree.specs.declared.expr.Block.{Block}
 use Rattle.em_tree.specs.declared.expr.MacroCall.{MacroCall}
-use Rattle.em_tree.specs.declared.expr.ElseIf.{ElseIf, out-ElseIf}
-use Rattle.em_tree.specs.declared.expr.Expr.{Expr, out-Expr}
+use Rattle.em_tree.specs.declared.expr.ElseIf.{ElseIf}
+use Rattle.em_tree.specs.declared.expr.Expr.{Expr}
 use Rattle.em_tree.specs.declared.expr.Expr.TheVariants as expr
-use Rattle.em_tree.specs.declared.expr.Stmt.{Stmt, out-Stmt}
+use Rattle.em_tree.specs.declared.expr.Stmt.{Stmt}
 use Rattle.em_tree.specs.declared.expr.Stmt.TheVariants as stmt
-use Rattle.em_tree.specs.declared.expr.Body.{Body, out-Body}
-use Rattle.em_tree.specs.declared.item.MetaInput.{MetaInput}
-use Rattle.em_tree.specs.declared.item.Meta.{Meta}
+use Rattle.em_tree.specs.declared.expr.Body.{Body}
 use Rattle.em_tree.specs.declared.item.Attribute.{Attribute}
-use Rattle.em_tree.specs.declared.item.VisScope.{VisScope}
 use Rattle.em_tree.specs.declared.item.Vis.{Vis}
-use Rattle.em_tree.specs.declared.item.SelfParam.{SelfParam}
-use Rattle.em_tree.specs.declared.item.Param.{Param}
-use Rattle.em_tree.specs.declared.item.Sig.{Sig}
-use Rattle.em_tree.specs.declared.item.TraitBody.{TraitBody}
-use Rattle.em_tree.specs.declared.item.TraitFn.{TraitFn}
-use Rattle.em_tree.specs.declared.item.ImplFn.{ImplFn}
-use Rattle.em_tree.specs.declared.item.ImplTrait.{ImplTrait}
-use Rattle.em_tree.specs.declared.item.FieldDecl.{FieldDecl}
-use Rattle.em_tree.specs.declared.item.TupleDecl.{TupleDecl}
-use Rattle.em_tree.specs.declared.item.StructFields.{StructFields}
-use Rattle.em_tree.specs.declared.item.VariantField.{VariantField}
-use Rattle.em_tree.specs.declared.item.VariantFields.{VariantFields}
-use Rattle.em_tree.specs.declared.item.VariantDecl.{VariantDecl}
-use Rattle.em_tree.specs.declared.item.Rename.{Rename}
-use Rattle.em_tree.specs.declared.item.UseName.{UseName}
 use Rattle.em_tree.specs.declared.item.ItemBody.{ItemBody}
-use Rattle.em_tree.specs.declared.item.Item.{Item, out-Item}
+use Rattle.em_tree.specs.declared.item.Item.{Item}
 use Rattle.em_tree.specs.declared.item.Item.TheVariants as item
 use Rattle.em_tree.specs.declared.piece.Piece.TheVariants as p
-use Rattle.em_tree.specs.Parts.{maybe, each, leaves, listed_parts, delimited_parts, literal_parts, segment_parts, path_step_parts, segments_parts, path_parts, qualified_parts, output_parts, bound_parts, type_tree_parts, field_pat_parts, pat_parts, alternative_parts, top_pat_parts, annotation_parts, field_expr_parts, closure_param_parts, closure_head_parts, condition_parts, arm_parts, reference_parts, refs_parts, block_parts, macro_call_parts, else_if_parts, expr_parts, stmt_parts, body_parts, meta_input_parts, meta_parts, attribute_parts, vis_scope_parts, vis_parts, self_param_parts, param_parts, sig_parts, trait_body_parts, trait_fn_parts, impl_fn_parts, impl_trait_parts, field_decl_parts, tuple_decl_parts, struct_fields_parts, variant_field_parts, variant_fields_parts, variant_decl_parts, rename_parts, use_name_parts, item_body_parts, item_parts}
-use Rattle.em_tree.specs.Yields.{piece, whole, as_it_is, place, first_of, last_of}
-use Rattle.em_tree.proofs.Layers.{at-Literal-Token, at-Literal-Negative, at-Literal-Group, at-Bound-Path, at-Bound-Call, at-Output-Unit, at-Output-Type, at-Path-Plain, at-Path-Qualified, at-Path-Group, at-TypeTree-Path, at-TypeTree-Boxed, at-TypeTree-Ref, at-TypeTree-RefRef, at-TypeTree-Array, at-TypeTree-Slice, at-TypeTree-Unit, at-TypeTree-Dyn, at-TypeTree-Bare, at-TypeTree-Group, at-Qualified, at-Pat-Wild, at-Pat-Name, at-Pat-Literal, at-Pat-Range, at-Pat-Path, at-Pat-Tuple, at-Pat-Struct, at-Pat-Group, at-TopPat-Alternatives, at-TopPat-Group, at-Expr-Literal, at-Expr-Path, at-Expr-Struct, at-Expr-Paren, at-Expr-Array, at-Expr-Repeat, at-Expr-Block, at-Expr-If, at-Expr-Match, at-Expr-While, at-Expr-Loop, at-Expr-For, at-Expr-Closure, at-Expr-ClosureTo, at-Expr-Macro, at-Expr-Return, at-Expr-Break, at-Expr-Continue, at-Expr-MethodCall, at-Expr-Call, at-Expr-Field, at-Expr-Place, at-Expr-Index, at-Expr-Unary, at-Expr-Ref, at-Expr-RefRef, at-Expr-Binary, at-Expr-Assign, at-Expr-Group, at-Stmt-Mention, at-Stmt-Let, at-Stmt-Macro, at-Stmt-Expr, at-Stmt-BlockLike, at-Stmt-Group, at-Body, at-ElseIf, at-Item-Plain, at-Item-Group}
+use Rattle.em_tree.specs.Parts.{maybe, each, leaves, listed_parts, literal_parts, segments_parts, path_parts, qualified_parts, output_parts, bound_parts, type_tree_parts, field_pat_parts, pat_parts, annotation_parts, field_expr_parts, closure_head_parts, condition_parts, arm_parts, refs_parts, block_parts, macro_call_parts, else_if_parts, expr_parts, stmt_parts, body_parts, attribute_parts, vis_parts, item_body_parts, item_parts}
+use Rattle.em_tree.specs.Yields.{piece, whole, as_it_is, first_of, last_of}
+use Rattle.em_tree.proofs.Layers.{at-Literal-Token, at-Literal-Negative, at-Literal-Group, at-Bound-Path, at-Bound-Call, at-Path-Plain, at-Path-Qualified, at-Path-Group, at-TypeTree-Path, at-TypeTree-Boxed, at-TypeTree-Ref, at-TypeTree-RefRef, at-TypeTree-Array, at-TypeTree-Slice, at-TypeTree-Unit, at-TypeTree-Dyn, at-TypeTree-Bare, at-TypeTree-Group, at-Qualified, at-Pat-Wild, at-Pat-Name, at-Pat-Literal, at-Pat-Range, at-Pat-Path, at-Pat-Tuple, at-Pat-Struct, at-Pat-Group, at-Expr-Literal, at-Expr-Path, at-Expr-Struct, at-Expr-Paren, at-Expr-Array, at-Expr-Repeat, at-Expr-Block, at-Expr-If, at-Expr-Match, at-Expr-While, at-Expr-Loop, at-Expr-For, at-Expr-Closure, at-Expr-ClosureTo, at-Expr-Macro, at-Expr-Return, at-Expr-Break, at-Expr-Continue, at-Expr-MethodCall, at-Expr-Call, at-Expr-Field, at-Expr-Place, at-Expr-Index, at-Expr-Unary, at-Expr-Ref, at-Expr-RefRef, at-Expr-Binary, at-Expr-Assign, at-Expr-Group, at-Stmt-Mention, at-Stmt-Let, at-Stmt-Macro, at-Stmt-Expr, at-Stmt-BlockLike, at-Stmt-Group, at-Item-Plain, at-Item-Group}
 
 pub front : (xs ys : List Piece) (s : Span) → first_of xs ≡ Some s → first_of (xs ++ ys) ≡ Some s
 front [] ys s h = cc
@@ -290,9 +263,6 @@ last_expr_block x x0 s is h = ap last_of (at-Expr-Block piece whole as_it_is x x
 
 pub first_expr_if : (x : Expr) (word : Token) (condition : Condition Expr) (then : Block Body) (branches : List ElseIf) (word_else : Option Token) (otherwise : Option (Block Body)) (s : Span) → x ≡ expr.If word condition then branches word_else otherwise → first_of (piece word) ≡ Some s → first_of (expr_parts piece whole as_it_is x) ≡ Some s
 first_expr_if x word condition then branches word_else otherwise s is h = ap first_of (at-Expr-If piece whole as_it_is x word condition then branches word_else otherwise is) ∙ front (piece word) (condition_parts piece whole as_it_is (expr_parts piece whole as_it_is) condition ++ (block_parts piece whole as_it_is (body_parts piece whole as_it_is) then ++ (each (else_if_parts piece whole as_it_is) branches ++ (maybe piece word_else ++ maybe (block_parts piece whole as_it_is (body_parts piece whole as_it_is)) otherwise)))) s h
-
-pub last_expr_if : (x : Expr) (word : Token) (condition : Condition Expr) (then : Block Body) (branches : List ElseIf) (word_else : Option Token) (otherwise : Option (Block Body)) (s : Span) → x ≡ expr.If word condition then branches word_else otherwise → last_of (maybe piece word_else ++ maybe (block_parts piece whole as_it_is (body_parts piece whole as_it_is)) otherwise) ≡ Some s → last_of (expr_parts piece whole as_it_is x) ≡ Some s
-last_expr_if x word condition then branches word_else otherwise s is h = ap last_of (at-Expr-If piece whole as_it_is x word condition then branches word_else otherwise is) ∙ back (piece word) (condition_parts piece whole as_it_is (expr_parts piece whole as_it_is) condition ++ (block_parts piece whole as_it_is (body_parts piece whole as_it_is) then ++ (each (else_if_parts piece whole as_it_is) branches ++ (maybe piece word_else ++ maybe (block_parts piece whole as_it_is (body_parts piece whole as_it_is)) otherwise)))) s (back (condition_parts piece whole as_it_is (expr_parts piece whole as_it_is) condition) (block_parts piece whole as_it_is (body_parts piece whole as_it_is) then ++ (each (else_if_parts piece whole as_it_is) branches ++ (maybe piece word_else ++ maybe (block_parts piece whole as_it_is (body_parts piece whole as_it_is)) otherwise))) s (back (block_parts piece whole as_it_is (body_parts piece whole as_it_is) then) (each (else_if_parts piece whole as_it_is) branches ++ (maybe piece word_else ++ maybe (block_parts piece whole as_it_is (body_parts piece whole as_it_is)) otherwise)) s (back (each (else_if_parts piece whole as_it_is) branches) (maybe piece word_else ++ maybe (block_parts piece whole as_it_is (body_parts piece whole as_it_is)) otherwise) s (h))))
 
 pub first_expr_match : (x : Expr) (word : Token) (scrutinee : Expr) (opening : Token) (arms : List (Arm Expr)) (closing : Token) (s : Span) → x ≡ expr.Match word scrutinee opening arms closing → first_of (piece word) ≡ Some s → first_of (expr_parts piece whole as_it_is x) ≡ Some s
 first_expr_match x word scrutinee opening arms closing s is h = ap first_of (at-Expr-Match piece whole as_it_is x word scrutinee opening arms closing is) ∙ front (piece word) (expr_parts piece whole as_it_is scrutinee ++ (piece opening ++ (each (arm_parts piece whole as_it_is (expr_parts piece whole as_it_is)) arms ++ piece closing))) s h

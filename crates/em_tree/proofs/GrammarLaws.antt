@@ -1,7 +1,6 @@
 -- Laws of the grammar.
-use Rattle.std.proofs.Common.{◌≡◌, ℕ, zero, suc, true, List, [], ◌∷◌, refl}
+use Rattle.std.proofs.Common.{zero, suc, refl}
 use Rattle.em_tree.specs.ExprGrammar.{BlockWithin, BodyWithin}
-use Rattle.em_tree.specs.FragmentGrammar.{IsPrefix}
 use Rattle.em_tree.specs.Starts.{starts, starts_token}
 use Rattle.em_tree.specs.Laws.{EmptyFile, WordIsFragment, BlockHasBody}
 

@@ -1,14 +1,11 @@
 -- The parts of each tree of a type that leads back to itself, one level at a time.
-use Rattle.std.proofs.Common.{◌≡◌, List, [], ◌∷◌, ◌++◌, Option, Some, None, refl, sym, ap, ◌∙◌, map}
+use Rattle.std.proofs.Common.{◌≡◌, List, [], ◌∷◌, ◌++◌, Option, Some, None, refl, ap, ◌∙◌, map}
 use Rattle.em_base.specs.declared.token.Token.{Token}
 use Rattle.em_tree.specs.declared.parts.Listed.{Listed}
 use Rattle.em_tree.specs.declared.piece.Piece.{Piece}
 use Rattle.em_tree.specs.declared.piece.Group.{Group}
-use Rattle.em_tree.specs.declared.piece.Delimited.{Delimited}
 use Rattle.em_tree.specs.declared.literal.Literal.{Literal, out-Literal, fold-Literal, fold_out-Literal, map-Literal}
 use Rattle.em_tree.specs.declared.literal.Literal.TheVariants as literal
-use Rattle.em_tree.specs.declared.types.Segment.{Segment}
-use Rattle.em_tree.specs.declared.types.PathStep.{PathStep}
 use Rattle.em_tree.specs.declared.types.Segments.{Segments}
 use Rattle.em_tree.specs.declared.types.Path.{Path, out-Path, fold-Path, fold_out-Path, map-Path}
 use Rattle.em_tree.specs.declared.types.Path.TheVariants as path
@@ -27,11 +24,9 @@ use Rattle.em_tree.specs.declared.pat.TopPat.{TopPat, out-TopPat, fold-TopPat, f
 use Rattle.em_tree.specs.declared.pat.TopPat.TheVariants as top_pat
 use Rattle.em_tree.specs.declared.expr.Annotation.{Annotation}
 use Rattle.em_tree.specs.declared.expr.FieldExpr.{FieldExpr}
-use Rattle.em_tree.specs.declared.expr.ClosureParam.{ClosureParam}
 use Rattle.em_tree.specs.declared.expr.ClosureHead.{ClosureHead}
 use Rattle.em_tree.specs.declared.expr.Condition.{Condition}
 use Rattle.em_tree.specs.declared.expr.Arm.{Arm}
-use Rattle.em_tree.specs.declared.expr.Reference.{Reference}
 use Rattle.em_tree.specs.declared.expr.Refs.{Refs}
 use Rattle.em_tree.specs.declared.expr.Block.{Block}
 use Rattle.em_tree.specs.declared.expr.MacroCall.{MacroCall}
@@ -41,26 +36,8 @@ use Rattle.em_tree.specs.declared.expr.Expr.TheVariants as expr
 use Rattle.em_tree.specs.declared.expr.Stmt.{Stmt, out-Stmt, fold-Stmt, fold_out-Stmt, map-Stmt}
 use Rattle.em_tree.specs.declared.expr.Stmt.TheVariants as stmt
 use Rattle.em_tree.specs.declared.expr.Body.{Body, out-Body, fold-Body, fold_out-Body, map-Body}
-use Rattle.em_tree.specs.declared.item.MetaInput.{MetaInput}
-use Rattle.em_tree.specs.declared.item.Meta.{Meta}
 use Rattle.em_tree.specs.declared.item.Attribute.{Attribute}
-use Rattle.em_tree.specs.declared.item.VisScope.{VisScope}
 use Rattle.em_tree.specs.declared.item.Vis.{Vis}
-use Rattle.em_tree.specs.declared.item.SelfParam.{SelfParam}
-use Rattle.em_tree.specs.declared.item.Param.{Param}
-use Rattle.em_tree.specs.declared.item.Sig.{Sig}
-use Rattle.em_tree.specs.declared.item.TraitBody.{TraitBody}
-use Rattle.em_tree.specs.declared.item.TraitFn.{TraitFn}
-use Rattle.em_tree.specs.declared.item.ImplFn.{ImplFn}
-use Rattle.em_tree.specs.declared.item.ImplTrait.{ImplTrait}
-use Rattle.em_tree.specs.declared.item.FieldDecl.{FieldDecl}
-use Rattle.em_tree.specs.declared.item.TupleDecl.{TupleDecl}
-use Rattle.em_tree.specs.declared.item.StructFields.{StructFields}
-use Rattle.em_tree.specs.declared.item.VariantField.{VariantField}
-use Rattle.em_tree.specs.declared.item.VariantFields.{VariantFields}
-use Rattle.em_tree.specs.declared.item.VariantDecl.{VariantDecl}
-use Rattle.em_tree.specs.declared.item.Rename.{Rename}
-use Rattle.em_tree.specs.declared.item.UseName.{UseName}
 use Rattle.em_tree.specs.declared.item.ItemBody.{ItemBody}
 use Rattle.em_tree.specs.declared.item.Item.{Item, out-Item, fold-Item, fold_out-Item, map-Item}
 use Rattle.em_tree.specs.declared.item.Item.TheVariants as item
@@ -76,7 +53,7 @@ use Rattle.em_tree.specs.declared.pat.FieldPat.TheVariants as field_pat
 use Rattle.em_tree.specs.declared.pat.Pat.TheShapes.{former-Pat-Struct-2-at-8}
 use Rattle.em_tree.specs.declared.expr.Expr.TheShapes.{former-Expr-Struct-2-at-6, former-Expr-If-1, former-Expr-For-5}
 use Rattle.em_tree.specs.declared.item.Item.TheShapes.{former-Item-Plain-2}
-use Rattle.em_tree.specs.Parts.{same, maybe, each, leaves, listed_parts, delimited_parts, literal_parts, segment_parts, path_step_parts, segments_parts, path_parts, qualified_parts, output_parts, bound_parts, type_tree_parts, field_pat_parts, pat_parts, alternative_parts, top_pat_parts, annotation_parts, field_expr_parts, closure_param_parts, closure_head_parts, condition_parts, arm_parts, reference_parts, refs_parts, block_parts, macro_call_parts, else_if_parts, expr_parts, stmt_parts, body_parts, meta_input_parts, meta_parts, attribute_parts, vis_scope_parts, vis_parts, self_param_parts, param_parts, sig_parts, trait_body_parts, trait_fn_parts, impl_fn_parts, impl_trait_parts, field_decl_parts, tuple_decl_parts, struct_fields_parts, variant_field_parts, variant_fields_parts, variant_decl_parts, rename_parts, use_name_parts, item_body_parts, item_parts, literal_step, bound_step, output_step, path_step, type_tree_step, qualified_step, pat_step, top_pat_step, expr_step, stmt_step, body_step, else_if_step, item_step}
+use Rattle.em_tree.specs.Parts.{same, maybe, each, listed_parts, literal_parts, segments_parts, path_parts, qualified_parts, output_parts, bound_parts, type_tree_parts, field_pat_parts, pat_parts, alternative_parts, top_pat_parts, annotation_parts, field_expr_parts, closure_head_parts, condition_parts, arm_parts, refs_parts, block_parts, macro_call_parts, else_if_parts, expr_parts, stmt_parts, body_parts, attribute_parts, vis_parts, item_body_parts, item_parts, literal_step, bound_step, output_step, path_step, type_tree_step, qualified_step, pat_step, top_pat_step, expr_step, stmt_step, body_step, else_if_step, item_step}
 
 pub each_map : {A B C : Type 0} (f : B → List A) (k : C → B) (xs : List C) → each f (map k xs) ≡ each (λ x. f (k x)) xs
 each_map f k [] = refl

@@ -1,10 +1,10 @@
 -- The tokens of a piece, one level at a time.
-use Rattle.std.proofs.Common.{◌≡◌, List, [], ◌∷◌, ◌++◌, refl, sym, ap, ◌∙◌, map}
+use Rattle.std.proofs.Common.{◌≡◌, List, ◌++◌, sym, ap, ◌∙◌}
 use Rattle.em_base.specs.declared.token.Token.{Token}
 use Rattle.em_tree.specs.declared.piece.Group.{Group, out-Group, fold-Group, fold_out-Group}
 use Rattle.em_tree.specs.declared.piece.PieceList.{PieceList, out-PieceList, fold-PieceList, fold_out-PieceList}
 use Rattle.em_tree.specs.declared.piece.Piece.{Piece, out-Piece, fold-Piece, fold_out-Piece, map-Piece}
-use Rattle.em_tree.specs.declared.piece.Piece.TheOpen.{Piece-F, Group-F, PieceList-F}
+use Rattle.em_tree.specs.declared.piece.Piece.TheOpen.{Piece-F}
 use Rattle.em_tree.specs.declared.piece.Piece.TheVariants as p
 use Rattle.em_tree.specs.Starts.{pieces_of}
 use Rattle.em_tree.specs.Parts.{each}

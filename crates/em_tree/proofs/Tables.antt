@@ -7,6 +7,7 @@ use Rattle.std.specs.Option.{is_some}
 use Rattle.std.specs.List.{list_all}
 use Rattle.std.specs.Cmp.Lexicographic.{bytes_decides}
 use Rattle.em_base.specs.Words.{is_among}
+use Rattle.em_tree.specs.Starts.{is_one_of}
 
 same_is_eq : (t : List ℕ) → bytes_eq t t ≡ true
 same_is_eq t = (bytes_decides t t).1 refl
@@ -42,7 +43,7 @@ among_larger (x ∷ xs) ys t all h =
     ]
 
 -- two lists with the same words
-pub among_same : (xs ys : List (List ℕ)) (t : List ℕ) → list_all (is_among ys) xs ≡ true → list_all (is_among xs) ys ≡ true → is_among xs t ≡ is_among ys t
+among_same : (xs ys : List (List ℕ)) (t : List ℕ) → list_all (is_among ys) xs ≡ true → list_all (is_among xs) ys ≡ true → is_among xs t ≡ is_among ys t
 among_same xs ys t within whole =
     elim (cases_Bool (is_among xs t)) [
       | inl has ↦ has ∙ sym (among_larger xs ys t within has)
@@ -52,3 +53,7 @@ among_same xs ys t within whole =
             | inr neither ↦ none ∙ sym neither
           ]
     ]
+
+pub one_of_same : (xs ys : List (List ℕ)) (o : Option (List ℕ)) → list_all (is_among ys) xs ≡ true → list_all (is_among xs) ys ≡ true → is_one_of xs o ≡ is_one_of ys o
+one_of_same xs ys None within whole = refl
+one_of_same xs ys (Some t) within whole = among_same xs ys t within whole

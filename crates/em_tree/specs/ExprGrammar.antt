@@ -36,7 +36,7 @@ use Rattle.em_tree.specs.Tokens.{Is, IsOneOf, Maybe, Each, Commas, Name, IsLiter
 use Rattle.em_tree.specs.Yields.{piece, whole, as_it_is, opened}
 use Rattle.em_tree.specs.PathGrammar.{IsLiteral, IsIntLiteral, TypeWithin, PathWithin, literal_pieces}
 use Rattle.em_tree.specs.PatGrammar.{IsPat, IsTopPat, pat_pieces}
-use Rattle.em_tree.specs.ExprShape.{strength, operator_strength, comparison, postfix, unary, assignment, takes_all, Edge, Fine, BlockLike, Braces, Round, PastBlock, edge, ends_bare}
+use Rattle.em_tree.specs.ExprShape.{strength, operator_strength, comparison, postfix, unary, assignment, takes_all, Edge, Fine, BlockLike, Braces, Round, PastBlock, edge, ends_open, ends_bare}
 
 abbrev pub expr_pieces : Expr → List Piece
 expr_pieces x = expr_parts piece whole as_it_is x
@@ -120,6 +120,10 @@ assignments =
 abbrev pub left_strength : ℕ → ℕ
 left_strength n = if n == comparison then suc n else n
 
+-- an expression that may stand behind an operator which binds so tightly
+abbrev pub IsOperand : ℕ → Expr → Type 0
+IsOperand n x = (n ≤ strength x) ⊎ (strength x ≡ takes_all)
+
 -- a field of a struct expression has a `:` and a value, or neither
 abbrev pub IsFieldExpr : (Expr → Type 0) → FieldExpr Expr → Type 0
 IsFieldExpr Inner x = Name x.name × IsValue x.colon x.value
@@ -137,9 +141,14 @@ IsOperandGroup g = (kind_of g ≡ f.Expr) ⊎ ((kind_of g ≡ f.Literal) × ((l 
 -- ---- over the expressions inside, where `no_struct` says that a struct expression may not stand there, since a brace ends it
 
 module _ (depth : ℕ) (Inner Deeper : (no_struct : Bool) → Expr → Type 0) where
-  -- at least as tightly bound as a number says
+  -- what goes on behind it: at least as tightly bound as a number says, and not open at its end
   abbrev pub AtLeast : ℕ → Bool → Expr → Type 0
-  AtLeast n no_struct x = Inner no_struct x × (n ≤ strength x)
+  AtLeast n no_struct x = Inner no_struct x × (n ≤ strength x) × (ends_open x ≡ false)
+
+  -- what stands behind an operator: at least as tightly bound as a number says, or a closure or a `return` (Reference, "Expression
+  -- precedence")
+  abbrev pub Operand : ℕ → Bool → Expr → Type 0
+  Operand n no_struct x = Inner no_struct x × IsOperand n x
 
   -- an expression before the brace of a block: it doesn't end in a `return` without a value, which would take the block
   abbrev pub BeforeBlock : Expr → Type 0
@@ -185,7 +194,7 @@ module _ (depth : ℕ) (Inner Deeper : (no_struct : Bool) → Expr → Type 0) w
   -- the scrutinee of an `if let` is no lazy operator's expression and no assignment (Reference, "`if` expressions")
   abbrev pub IsCondition : Condition Expr → Type 0
   IsCondition (condition.Expr x) = BeforeBlock x
-  IsCondition (condition.Let word pat equals x) = Is (codes "let") word × IsTopPat depth pat × Is (codes "=") equals × BeforeBlock x × ((comparison ≤ strength x) ⊎ (strength x ≡ takes_all))
+  IsCondition (condition.Let word pat equals x) = Is (codes "let") word × IsTopPat depth pat × Is (codes "=") equals × BeforeBlock x × IsOperand comparison x
 
   abbrev pub IsElseIf : ElseIf → Type 0
   IsElseIf x = Is (codes "else") (out-ElseIf x).word_else × Is (codes "if") (out-ElseIf x).word × IsCondition (out-ElseIf x).condition × IsBlock (out-ElseIf x).then
@@ -215,7 +224,7 @@ module _ (depth : ℕ) (Inner Deeper : (no_struct : Bool) → Expr → Type 0) w
   -- take all that follows (Reference, "Expression precedence" and "Range expressions")
   abbrev pub IsRange : Expr → Option Token → Option Expr → Type 0
   IsRange x None None = BeforeBlock x
-  IsRange x (Some dots) (Some y) = IsOneOf (codes ".." ∷ codes "..=" ∷ []) dots × AtLeast (suc assignment) true x × BeforeBlock y × ((suc assignment ≤ strength y) ⊎ (strength y ≡ takes_all))
+  IsRange x (Some dots) (Some y) = IsOneOf (codes ".." ∷ codes "..=" ∷ []) dots × AtLeast (suc assignment) true x × BeforeBlock y × IsOperand (suc assignment) y
   IsRange x None (Some y) = ⊥
   IsRange x (Some dots) None = ⊥
 
@@ -257,15 +266,15 @@ module _ (depth : ℕ) (Inner Deeper : (no_struct : Bool) → Expr → Type 0) w
     field : {h : Bool} {x y : Expr} {dot name : Token} → out-Expr x ≡ Expr-F.Field y dot name → AtLeast postfix h y → Is (codes ".") dot → Name name → ExprNode h x
     place : {h : Bool} {x y : Expr} {dot : Token} {number : Literal} → out-Expr x ≡ Expr-F.Place y dot number → AtLeast postfix h y → Is (codes ".") dot → IsIntLiteral number → ExprNode h x
     index : {h : Bool} {x y z : Expr} {open' close : Token} → out-Expr x ≡ Expr-F.Index y open' z close → AtLeast postfix h y → Is (codes "[") open' → Inner false z → Is (codes "]") close → ExprNode h x
-    unary' : {h : Bool} {x y : Expr} {operator : Token} → out-Expr x ≡ Expr-F.Unary operator y → IsOneOf (codes "-" ∷ codes "!" ∷ codes "*" ∷ []) operator → AtLeast unary h y → ExprNode h x
-    ref : {h : Bool} {x y : Expr} {amp : Token} {word_mut : Option Token} → out-Expr x ≡ Expr-F.Ref amp word_mut y → Is (codes "&") amp → Maybe (Is (codes "mut")) word_mut → AtLeast unary h y → ExprNode h x
+    unary' : {h : Bool} {x y : Expr} {operator : Token} → out-Expr x ≡ Expr-F.Unary operator y → IsOneOf (codes "-" ∷ codes "!" ∷ codes "*" ∷ []) operator → Operand unary h y → ExprNode h x
+    ref : {h : Bool} {x y : Expr} {amp : Token} {word_mut : Option Token} → out-Expr x ≡ Expr-F.Ref amp word_mut y → Is (codes "&") amp → Maybe (Is (codes "mut")) word_mut → Operand unary h y → ExprNode h x
     -- two references, which count as two nodes
     ref_ref : {h : Bool} {x y : Expr} {amps : Token} {word_mut : Option Token} → out-Expr x ≡ Expr-F.RefRef amps word_mut y
-        → Is (codes "&&") amps → Maybe (Is (codes "mut")) word_mut → Deeper h y → unary ≤ strength y → ExprNode h x
+        → Is (codes "&&") amps → Maybe (Is (codes "mut")) word_mut → Deeper h y → IsOperand unary y → ExprNode h x
     binary : {h : Bool} {x y z : Expr} {operator : Token} → out-Expr x ≡ Expr-F.Binary y operator z → 0 < operator_strength operator
-        → AtLeast (left_strength (operator_strength operator)) h y → AtLeast (suc (operator_strength operator)) h z → ExprNode h x
+        → AtLeast (left_strength (operator_strength operator)) h y → Operand (suc (operator_strength operator)) h z → ExprNode h x
     assign : {h : Bool} {x y z : Expr} {operator : Token} → out-Expr x ≡ Expr-F.Assign y operator z → IsOneOf assignments operator
-        → AtLeast (suc assignment) h y → AtLeast assignment h z → ExprNode h x
+        → AtLeast (suc assignment) h y → Operand assignment h z → ExprNode h x
     -- a group adds no node, and what is in it stands as in parentheses
     group : {h : Bool} {x y : Expr} {g : Group} → out-Expr x ≡ Expr-F.Expr::Group g y → IsOperandGroup g → pieces_of g ≡ expr_pieces y → ExprNode false y → ExprNode h x
 

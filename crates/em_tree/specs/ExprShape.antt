@@ -92,7 +92,7 @@ past _ = Fine
 abbrev pub call_edge : MacroCall → Edge
 call_edge call = if is_spelled (codes "{" ∷ []) call.text.open then Braces else Round
 
-abbrev edge_step : Expr-F Edge (Unit {0}) (Unit {0}) (Unit {0}) → Edge
+abbrev pub edge_step : Expr-F Edge (Unit {0}) (Unit {0}) (Unit {0}) → Edge
 edge_step (Expr-F.Block b) = BlockLike
 edge_step (Expr-F.If word condition then' branches word_else otherwise) = BlockLike
 edge_step (Expr-F.Match word scrutinee open' arms close) = BlockLike
@@ -114,11 +114,30 @@ edge x = fold-Expr Edge (Unit {0}) (Unit {0}) (Unit {0}) edge_step (λ s. tt) (�
 
 -- ---- the right end
 
-abbrev bare_step : Expr-F Bool (Unit {0}) (Unit {0}) (Unit {0}) → Bool
+-- what stands at the right end of an operator's expression, and false for a form that ends otherwise
+abbrev pub right_end : Expr-F Bool (Unit {0}) (Unit {0}) (Unit {0}) → Bool
+right_end (Expr-F.Unary operator operand) = operand
+right_end (Expr-F.Ref amp word_mut operand) = operand
+right_end (Expr-F.RefRef amps word_mut operand) = operand
+right_end (Expr-F.Binary left operator right) = right
+right_end (Expr-F.Assign left operator right) = right
+right_end _ = false
+
+abbrev pub open_step : Expr-F Bool (Unit {0}) (Unit {0}) (Unit {0}) → Bool
+open_step (Expr-F.Closure word_move head body) = true
+open_step (Expr-F.ClosureTo word_move head arrow output body) = true
+open_step (Expr-F.Return word value) = true
+open_step x = right_end x
+
+-- the expression ends in a closure or a `return`, which takes all that follows, so nothing goes on with the whole
+unfoldable pub ends_open : Expr → Bool
+ends_open x = fold-Expr Bool (Unit {0}) (Unit {0}) (Unit {0}) open_step (λ s. tt) (λ b. tt) (λ e. tt) x
+
+abbrev pub bare_step : Expr-F Bool (Unit {0}) (Unit {0}) (Unit {0}) → Bool
 bare_step (Expr-F.Return word None) = true
 bare_step (Expr-F.Return word (Some value)) = value
 bare_step (Expr-F.Closure word_move head body) = body
-bare_step _ = false
+bare_step x = right_end x
 
 -- the expression ends in a `return` without a value
 unfoldable pub ends_bare : Expr → Bool

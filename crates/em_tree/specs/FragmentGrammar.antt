@@ -1,5 +1,6 @@
 -- Fragments of macros by their kinds (Reference, "Metavariables"), and trees of the grammar.
-use Rattle.std.specs.Prelude.{◌≡◌, ℕ, Bool, true, false, not, ◌&&◌, ◌||◌, List, [], ◌∷◌, ◌++◌, codes}
+use Rattle.std.specs.Prelude.{◌≡◌, ◌≤◌, ℕ, Bool, true, false, not, ◌&&◌, ◌||◌, List, [], ◌∷◌, ◌++◌, length, codes}
+use Rattle.em_tree.specs.declared.types.TypeTree.{TypeTree}
 use Rattle.em_base.specs.declared.edition.Edition.{Edition}
 use Rattle.em_base.specs.declared.edition.Edition.TheVariants.{E2015, E2018, E2021}
 use Rattle.em_base.specs.declared.token.Token.{Token}
@@ -109,7 +110,14 @@ makes_keyword [] = false
 makes_keyword (p.Token t ∷ ys) = is_lifetime t || is_spelled (codes "for" ∷ codes "?" ∷ codes "(" ∷ []) t
 makes_keyword (p.Group g ∷ ys) = false
 
--- the pieces are a fragment before the rest. A prefix of the kind `ty` is one only where its last `dyn` stays a name
+-- no type that the pieces begin with, and that is this long or longer, ends in a `dyn` which the next piece makes the keyword
+abbrev pub DynStays : List Piece → List Piece → Type 0
+DynStays ys rest =
+    (longer after : List Piece) (depth : ℕ) (y : TypeTree) → ys ++ rest ≡ longer ++ after → longer ≡ type_pieces y → TypeWithin depth y → length ys ≤ length longer
+    → (ends_in_dyn longer && makes_keyword after) ≡ false
+
+-- the pieces are a fragment before the rest. One of the kind `ty` is no prefix where the longest one ends in such a `dyn`: it begins a
+-- trait object there, which is none of the profile (Reference, "Weak keywords")
 pub record IsPrefix (edition : Edition) (depth : ℕ) (ys rest : List Piece) (x : FragmentNode) : Type 0 where
   pub reads : Reads edition depth ys x
-  pub stays : kind_of_node x ≡ f.Ty → (ends_in_dyn ys && makes_keyword rest) ≡ false
+  pub stays : kind_of_node x ≡ f.Ty → DynStays ys rest

@@ -3,6 +3,7 @@ use Rattle.std.specs.Prelude.{◌≡◌, ◌⊎◌, ℕ, zero, suc, Bool, true, 
 use Rattle.em_base.specs.declared.token.Token.{Token}
 use Rattle.em_tree.specs.declared.parts.Listed.{Listed}
 use Rattle.em_tree.specs.declared.piece.Delimited.{Delimited}
+use Rattle.em_tree.specs.declared.piece.FragmentKind.{FragmentKind}
 use Rattle.em_tree.specs.declared.piece.FragmentKind.TheVariants as f
 use Rattle.em_tree.specs.declared.piece.Group.{Group}
 use Rattle.em_tree.specs.declared.piece.Piece.{Piece}
@@ -46,12 +47,12 @@ use Rattle.em_tree.specs.declared.item.ItemBody.TheVariants as body
 use Rattle.em_tree.specs.declared.item.Item.{Item, out-Item}
 use Rattle.em_tree.specs.declared.item.Item.TheOpen.{Item-F}
 use Rattle.em_tree.specs.declared.item.FileTree.{FileTree}
-use Rattle.em_tree.specs.Parts.{each, meta_parts, item_parts}
+use Rattle.em_tree.specs.Parts.{each, meta_parts, param_parts, item_parts}
 use Rattle.em_tree.specs.Starts.{kind_of, pieces_of, is_spelled}
 use Rattle.em_tree.specs.Tokens.{Is, IsOneOf, Maybe, Each, Commas, Name, IsDelimited, Ends, before_2018}
 use Rattle.em_tree.specs.Yields.{piece, whole, as_it_is, opened}
 use Rattle.em_tree.specs.PathGrammar.{IsLiteral, AreSegments, TypeWithin, PathWithin, IsType, IsOutput, path_pieces, type_pieces}
-use Rattle.em_tree.specs.PatGrammar.{IsPat}
+use Rattle.em_tree.specs.PatGrammar.{IsPat, pat_pieces}
 use Rattle.em_tree.specs.ExprGrammar.{BlockWithin, IsMacro}
 
 abbrev pub item_pieces : Item → List Piece
@@ -120,15 +121,36 @@ is_receiver (p.Token a ∷ p.Token b ∷ []) = is_spelled (codes "&" ∷ []) a &
 is_receiver (p.Token a ∷ p.Token b ∷ p.Token c ∷ []) = is_spelled (codes "&" ∷ []) a && (is_spelled (codes "mut" ∷ []) b && is_spelled (codes "self" ∷ []) c)
 is_receiver _ = false
 
-abbrev pub StartsBefore2018 : List Token → Type 0
-StartsBefore2018 [] = ⊥
-StartsBefore2018 (t ∷ ts) = before_2018 t.edition ≡ true
+abbrev pub starts_before_2018 : List Token → Bool
+starts_before_2018 [] = false
+starts_before_2018 (t ∷ ts) = before_2018 t.edition
 
--- a parameter; in a trait, in text of 2015, its pattern may lack (Edition Guide, "Anonymous trait
--- function parameters deprecated"; Reference, "Traits", "Parameter patterns")
+abbrev pub param_pieces : Param → List Piece
+param_pieces x = param_parts piece whole as_it_is x
+
+abbrev pub is_pattern_kind : FragmentKind → Bool
+is_pattern_kind f.Pat = true
+is_pattern_kind f.PatParam = true
+is_pattern_kind _ = false
+
+-- a token, or a fragment of a pattern
+abbrev pub can_be_named : Piece → Bool
+can_be_named (p.Token t) = true
+can_be_named (p.Group g) = is_pattern_kind (kind_of g)
+
+-- pieces of a pattern that is one of these, or `mut` and a token
+abbrev pub is_short : List Piece → Bool
+is_short (x ∷ []) = can_be_named x
+is_short (p.Token a ∷ p.Token b ∷ []) = is_spelled (codes "mut" ∷ []) a
+is_short _ = false
+
+-- a parameter. In a trait, where its first token is of 2015, its pattern may lack, and is a short one if it is there (Edition
+-- Guide, "Anonymous trait function parameters deprecated"; Reference, "Traits", "Parameter patterns")
 abbrev pub IsParam : ℕ → (in_trait : Bool) → Param → Type 0
-IsParam depth in_trait (param.Typed pat colon ty) = IsPat depth pat × Is (codes ":") colon × TypeWithin depth ty
-IsParam depth in_trait (param.Anonymous ty) = (in_trait ≡ true) × TypeWithin depth ty × StartsBefore2018 (opened (type_pieces ty))
+IsParam depth in_trait (param.Typed pat colon ty) =
+    IsPat depth pat × Is (codes ":") colon × TypeWithin depth ty
+    × ((in_trait && starts_before_2018 (opened (param_pieces (param.Typed pat colon ty)))) ≡ true → is_short (pat_pieces pat) ≡ true)
+IsParam depth in_trait (param.Anonymous ty) = TypeWithin depth ty × ((in_trait && starts_before_2018 (opened (param_pieces (param.Anonymous ty)))) ≡ true)
 
 -- behind a receiver stands a comma, which may lack where no parameter follows
 abbrev pub EndsReceiver : Option Token → List (Listed Param) → Type 0

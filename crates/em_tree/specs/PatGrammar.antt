@@ -64,8 +64,8 @@ module _ (Inner : Pat → Type 0) (IsPath : Path → Type 0) where
         → IsPath y → Is (codes "(") open' → Commas Inner fields → Is (codes ")") close → PatNode x
     struct : {x : Pat} {y : Path} {open' close : Token} {fields : List (Listed (FieldPat Pat))} {rest : Option Token} → out-Pat x ≡ Pat-F.Struct y open' fields rest close
         → IsPath y → Is (codes "{") open' → Commas IsField fields → IsRest fields rest → Is (codes "}") close → PatNode x
-    -- a group of a `pat` that is one pattern, or of a `pat_param`
-    group : {x y : Pat} {g : Group} → out-Pat x ≡ Pat-F.Group g y → (kind_of g ≡ f.Pat) ⊎ (kind_of g ≡ f.PatParam) → pieces_of g ≡ pat_pieces y → PatNode y → PatNode x
+    -- a group of a `pat` without a bar, or of a `pat_param`
+    group : {x y : Pat} {g : Group} → out-Pat x ≡ Pat-F.Group g y → ((kind_of g ≡ f.Pat) × (list_any is_bar (pieces_of g) ≡ false)) ⊎ (kind_of g ≡ f.PatParam) → pieces_of g ≡ pat_pieces y → PatNode y → PatNode x
 
 -- the patterns that nest no deeper than the number
 unfoldable pub IsPat : ℕ → Pat → Type 0

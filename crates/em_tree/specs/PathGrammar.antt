@@ -67,14 +67,19 @@ pub record AreSegments (s : Segments) : Type 0 where
 
 -- ---- paths
 
+-- a path without `<`
+pub data IsPlainPath : Path → Type 0 where
+  plain : {x : Path} {s : Segments} → out-Path x ≡ Path-F.Plain s → AreSegments s → IsPlainPath x
+  group : {x y : Path} {g : Group} → out-Path x ≡ Path-F.Path::Group g y → kind_of g ≡ f.Path → pieces_of g ≡ path_pieces y → IsPlainPath y → IsPlainPath x
+
 -- over what its types are
 module _ (Inner : TypeTree → Type 0) where
   pub data IsPath : Path → Type 0 where
     -- `a::b`
     plain : {x : Path} {s : Segments} → out-Path x ≡ Path-F.Plain s → AreSegments s → IsPath x
-    -- `<T as Trait>::name` (Reference, "Qualified paths")
+    -- `<T as Trait>::name`, whose trait is a path without `<` (Reference, "Qualified paths")
     qualified : {x : Path} {q : Qualified} → out-Path x ≡ Path-F.Qualified q → Is (codes "<") (out-Qualified q).open → Inner (out-Qualified q).self_type → Is (codes "as") (out-Qualified q).word
-        → IsPath (out-Qualified q).of_trait → Is (codes ">") (out-Qualified q).close → Is (codes "::") (out-Qualified q).separator → Name (out-Qualified q).name → IsPath x
+        → IsPlainPath (out-Qualified q).of_trait → Is (codes ">") (out-Qualified q).close → Is (codes "::") (out-Qualified q).separator → Name (out-Qualified q).name → IsPath x
     -- a group adds no node: it counts by the tree that its pieces are
     group : {x y : Path} {g : Group} → out-Path x ≡ Path-F.Path::Group g y → kind_of g ≡ f.Path → pieces_of g ≡ path_pieces y → IsPath y → IsPath x
 
@@ -125,7 +130,7 @@ module _ (Inner Deeper : (owes : Bool) → TypeTree → Type 0) where
   pub data TypeNode : Bool → TypeTree → Type 0 where
     path : {x : TypeTree} {y : Path} → out-TypeTree x ≡ TypeTree-F.TypeTree::Path y → IsPath (Inner false) y → TypeNode false x
     boxed : {owes : Bool} {x y : TypeTree} {word open' : Token} {close : Option Token} → out-TypeTree x ≡ TypeTree-F.Boxed word open' y close
-        → Is (codes "Box") word → Is (codes "<") open' → Closes owes close y → TypeNode owes x
+        → Is (codes "Box") word → Name word → Is (codes "<") open' → Closes owes close y → TypeNode owes x
     ref : {owes : Bool} {x y : TypeTree} {amp : Token} {word_mut : Option Token} → out-TypeTree x ≡ TypeTree-F.Ref amp word_mut y
         → Is (codes "&") amp → Maybe (Is (codes "mut")) word_mut → Inner owes y → TypeNode owes x
     -- two references, which count as two nodes

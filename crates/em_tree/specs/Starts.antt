@@ -1,5 +1,6 @@
 -- With which piece a fragment can start. These sets are this project's own; rustc's are close to them (Reference, "Metavariables").
-use Rattle.std.specs.Prelude.{ℕ, Bool, true, false, not, ◌&&◌, ◌||◌, List, [], ◌∷◌, codes}
+use Rattle.std.specs.Prelude.{ℕ, Bool, true, false, not, ◌&&◌, ◌||◌, if◌then◌else◌, List, [], ◌∷◌, codes, Option, Some, None}
+use Rattle.std.specs.Char.{is_ascii_alphabetic}
 use Rattle.std.specs.List.{list_any}
 use Rattle.std.specs.Str.{bytes_eq}
 use Rattle.em_base.specs.declared.edition.Edition.{Edition}
@@ -74,9 +75,31 @@ is_close t = close_kind t.kind
 abbrev pub is_literal : Token → Bool
 is_literal t = literal_kind t.kind
 
--- the token's spelling is one of the list. A raw identifier is spelled with its `r#`, so it is none of the words
+-- a word begins with a letter
+abbrev pub is_lettered : List ℕ → Bool
+is_lettered [] = false
+is_lettered (c ∷ cs) = is_ascii_alphabetic c
+
+-- what words and signs are compared with: the name of an identifier, the text of a delimiter or of punctuation. A raw
+-- identifier is never a keyword, and literals and lifetimes are none of the words and signs
+abbrev pub spelling_of : TokenKind → List ℕ → Option (List ℕ)
+spelling_of (t.Ident name true) text = None
+spelling_of (t.Ident name false) text = if is_lettered name then Some name else None
+spelling_of t.Open text = Some text
+spelling_of t.Close text = Some text
+spelling_of t.Punct text = Some text
+spelling_of _ text = None
+
+abbrev pub spelling : Token → Option (List ℕ)
+spelling t = spelling_of t.kind t.text
+
+abbrev pub is_one_of : List (List ℕ) → Option (List ℕ) → Bool
+is_one_of list None = false
+is_one_of list (Some text) = is_among list text
+
+-- the token's spelling is one of the list
 abbrev pub is_spelled : List (List ℕ) → Token → Bool
-is_spelled list t = is_among list t.text
+is_spelled list t = is_one_of list (spelling t)
 
 -- ---- the spellings beside names, literals and lifetimes
 

@@ -1,7 +1,7 @@
 -- Tests of single tokens, and lists with commas.
-use Rattle.std.specs.Prelude.{◌≡◌, ◌≢◌, ◌⊎◌, ℕ, Bool, true, false, not, ◌&&◌, ◌||◌, List, [], ◌∷◌, ◌++◌, codes, Option, Some, None}
+use Rattle.std.specs.Prelude.{◌≡◌, ◌⊎◌, ℕ, Bool, true, false, not, ◌&&◌, ◌||◌, List, [], ◌∷◌, ◌++◌, codes, Option, Some, None}
 use Rattle.em_base.specs.declared.edition.Edition.{Edition}
-use Rattle.em_base.specs.declared.edition.Edition.TheVariants.{E2015, E2018, E2021}
+use Rattle.em_base.specs.declared.edition.Edition.TheVariants.{E2015, E2021}
 use Rattle.em_base.specs.declared.token.Token.{Token}
 use Rattle.em_base.specs.declared.token.TokenKind.{TokenKind}
 use Rattle.em_base.specs.declared.token.TokenKind.TheVariants as t
@@ -10,11 +10,11 @@ use Rattle.em_tree.specs.declared.parts.Listed.{Listed}
 use Rattle.em_tree.specs.declared.piece.Delimited.{Delimited}
 use Rattle.em_tree.specs.declared.piece.Piece.{Piece}
 use Rattle.em_tree.specs.declared.piece.Piece.TheVariants as p
-use Rattle.em_tree.specs.Starts.{is_spelled, is_literal, is_name}
+use Rattle.em_tree.specs.Starts.{spelling, is_spelled, is_literal, is_name}
 
--- the token has this spelling. A raw identifier is spelled with its `r#`
+-- the token has this spelling
 abbrev pub Is : List ℕ → Token → Type 0
-Is text t = t.text ≡ text
+Is text t = spelling t ≡ Some text
 
 -- the token has one of these spellings
 abbrev pub IsOneOf : List (List ℕ) → Token → Type 0

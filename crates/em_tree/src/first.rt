@@ -128,7 +128,7 @@ pub(crate) fn first_pat(tree: &Pat) -> Span
     }
 }
 
-fn first_macro_call(tree: &MacroCall) -> Span
+pub(crate) fn first_macro_call(tree: &MacroCall) -> Span
     ensures { first_of (macro_call_parts piece whole as_it_is tree.now) ≡ Some result }
 {
     tree.name.get().span

@@ -9,6 +9,8 @@ mod expr;
 mod first;
 mod fragment;
 mod item;
+mod item_place;
+mod last;
 mod laws;
 mod literal;
 mod node;
@@ -17,11 +19,14 @@ mod pat;
 mod piece;
 mod put;
 mod put_expr;
+mod put_item;
 mod put_parts;
 mod put_pat;
 mod put_type;
 mod shared;
 mod start_sets;
+#[cfg(test)]
+mod tests;
 mod types;
 mod writer;
 
@@ -36,12 +41,15 @@ pub use item::{
     MetaInput, Param, Rename, SelfParam, Sig, StructFields, TraitBody, TraitFn, TupleDecl, UseName,
     VariantDecl, VariantField, VariantFields, Vis, VisScope,
 };
-pub use laws::{block_has_body, empty_file_is_one, word_is_fragment};
+pub use laws::{
+    block_has_body, empty_file_is_one, empty_function_is_item, product_binds_before_sum,
+    tokens_are_opened_pieces, word_is_fragment,
+};
 pub use literal::Literal;
-pub use node::Node;
+pub use node::{Node, place_of, tokens_of};
 pub use parts::Listed;
 pub use pat::{Alternative, FieldPat, Pat, TopPat};
 pub use piece::{Delimited, FragmentKind, Group, Piece, PieceList};
 pub use shared::Shared;
-pub use start_sets::starts;
+pub use start_sets::{spelling, starts, starts_token};
 pub use types::{Bound, Output, Path, PathStep, Qualified, Segment, Segments, TypeTree};

@@ -1,6 +1,9 @@
+ghost use Rattle.std.specs.Prelude.{◌≡◌, IfOk};
+
 use crate::shared::Shared;
-use em_base::{Edition, List, Mark, Span, Token};
+use em_base::{Edition, List, Mark, NoMemory, Span, Token};
 use sqlite_items::Items;
+use std::alloc::Global;
 
 /// The kinds of macro fragments (Reference, "Metavariables").
 #[derive(Clone, Copy, Debug, PartialEq, Eq)]
@@ -36,6 +39,21 @@ pub struct Group {
     pub kind: FragmentKind,
     pub edition: Edition,
     pub pieces: Shared<PieceList>,
+}
+
+impl Group {
+    /// The same group, whose pieces aren't copied.
+    pub fn share(&self, alloc: Global) -> Result<Group, NoMemory>
+        ensures { IfOk result (λ g. g ≡ self.now) }
+    {
+        Ok(Group {
+            outer: self.outer,
+            marks: List::from_slice(alloc, self.marks.as_slice())?,
+            kind: self.kind,
+            edition: self.edition,
+            pieces: self.pieces.share()?,
+        })
+    }
 }
 
 /// The pieces of a fragment, which its groups share.

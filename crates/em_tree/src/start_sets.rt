@@ -1,12 +1,13 @@
 ghost use Rattle.std.specs.Prelude.{◌≡◌, true, [], ◌∷◌, codes};
 ghost use Rattle.std.specs.List.{list_all, list_any};
+ghost use Rattle.std.specs.Option.{option_map};
 ghost use Rattle.em_base.specs.Words.{texts, is_ascending, is_among};
 ghost use Rattle.em_base.specs.declared.edition.Edition.TheVariants.{E2021};
 ghost use Rattle.em_tree.specs.declared.piece.FragmentKind.TheVariants as f;
-ghost use Rattle.em_tree.specs.Starts.{is_bar, is_pat_kind, is_name, is_word, is_lifetime, is_literal, is_close, is_spelled, starts_in_2021, starts_kind, starts, starts_token, starts_group, expr_starts, type_starts, path_starts, pattern_starts, literal_starts};
+ghost use Rattle.em_tree.specs.Starts.{is_bar, is_pat_kind, is_name, is_word, is_lifetime, is_literal, is_close, is_lettered, spelling, is_spelled, starts_in_2021, starts_kind, starts, starts_token, starts_group, expr_starts, type_starts, path_starts, pattern_starts, literal_starts};
 
 use crate::piece::{FragmentKind, Group, Piece};
-use em_base::{Class, Edition, Token, TokenKind, Word, find, keyword_in};
+use em_base::{Class, Edition, Name, Token, TokenKind, Word, find, keyword_in};
 
 macro_rules! words {
     ($($text:literal),* $(,)?) => {
@@ -67,12 +68,48 @@ fn literal_words() -> [Word; 3]
     words!("-", "false", "true",)
 }
 
+fn is_lettered(name: &Name) -> bool
+    ensures { result ≡ is_lettered name.now }
+{
+    match name.as_bytes() {
+        [first, ..] => first.is_ascii_alphabetic(),
+        [] => false,
+    }
+}
+
+/// What words and signs are compared with: the name of an identifier, the text of a delimiter or of punctuation. A raw
+/// identifier, a literal and a lifetime are none of them. Takes no memory.
+pub fn spelling(token: &Token) -> Option<&str>
+    ensures { option_map (λ s. s.now) result ≡ spelling token.now }
+{
+    match &token.kind {
+        TokenKind::Ident { name, raw: false } if is_lettered(name) => Some(name.as_str()),
+        TokenKind::Open => Some(token.text.as_str()),
+        TokenKind::Close => Some(token.text.as_str()),
+        TokenKind::Punct => Some(token.text.as_str()),
+        _ => None,
+    }
+}
+
 /// Whether the token has one of a table's spellings.
 fn is_spelled(table: &[Word], token: &Token) -> bool
     requires { is_ascending (texts table.now) ≡ true }
     ensures { result ≡ is_spelled (texts table.now) token.now }
 {
-    find(table, token.text.as_str()).is_some()
+    match spelling(token) {
+        Some(text) => find(table, text).is_some(),
+        None => false,
+    }
+}
+
+/// Whether the token is spelled like this sign.
+fn is_sign(token: &Token, sign: &str) -> bool
+    ensures { result ≡ is_spelled (sign.now ∷ []) token.now }
+{
+    match spelling(token) {
+        Some(text) => text == sign,
+        None => false,
+    }
 }
 
 /// Whether the token is an identifier or a keyword.
@@ -180,13 +217,13 @@ fn is_literal_word(token: &Token) -> bool
 fn is_brace(token: &Token) -> bool
     ensures { result ≡ is_spelled (codes "{" ∷ []) token.now }
 {
-    token.text.as_str() == "{"
+    is_sign(token, "{")
 }
 
 fn is_pipe(token: &Token) -> bool
     ensures { result ≡ is_spelled (codes "|" ∷ []) token.now }
 {
-    token.text.as_str() == "|"
+    is_sign(token, "|")
 }
 
 #[tactic(auto, unfolding(crate::specs::Starts::starts_token))]
@@ -219,8 +256,10 @@ fn is_2021(edition: Edition) -> bool
     }
 }
 
+/// Whether the token can start a fragment of the kind. The edition is that of the word that names the kind, and matters
+/// for `pat` alone. Takes no memory.
 #[tactic(auto, unfolding(crate::specs::Starts::starts_token))]
-fn starts_token(kind: FragmentKind, edition: Edition, token: &Token) -> bool
+pub fn starts_token(kind: FragmentKind, edition: Edition, token: &Token) -> bool
     ensures { result ≡ starts_token kind edition token.now }
 {
     match kind {

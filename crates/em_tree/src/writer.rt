@@ -1,19 +1,20 @@
-//! A list of tokens under way, to which the parts of expressions and statements are added.
+//! A list of tokens under way, to which the parts of expressions, statements and items are added.
 
 ghost use Rattle.std.specs.Prelude.{◌≡◌, [], ◌∷◌, ◌++◌, true, false, OnOk};
-ghost use Rattle.em_tree.specs.Parts.{annotation_parts, closure_head_parts, literal_parts, macro_call_parts, maybe, pat_parts, path_parts, refs_parts, top_pat_parts, type_tree_parts};
+ghost use Rattle.em_tree.specs.Parts.{annotation_parts, closure_head_parts, delimited_parts, literal_parts, macro_call_parts, maybe, output_parts, pat_parts, path_parts, refs_parts, segments_parts, top_pat_parts, type_tree_parts};
 ghost use Rattle.em_tree.specs.Yields.{one, inside, opened};
 ghost use Rattle.em_tree.specs.Adding.{Adds};
 
 use crate::expr::{Annotation, ClosureHead, MacroCall, Refs};
 use crate::literal::Literal;
 use crate::pat::{Pat, TopPat};
+use crate::piece::Delimited;
 use crate::put::{put, put_if};
-use crate::put_parts::{put_annotation, put_closure_head, put_macro_call, put_refs};
+use crate::put_parts::{put_annotation, put_closure_head, put_delimited, put_macro_call, put_refs};
 use crate::put_pat::{put_pat, put_top_pat};
-use crate::put_type::{put_literal, put_path, put_type};
+use crate::put_type::{put_literal, put_output, put_path, put_segments, put_type};
 use crate::shared::Shared;
-use crate::types::{Path, TypeTree};
+use crate::types::{Output, Path, Segments, TypeTree};
 use em_base::{List, NoMemory, Token};
 use std::alloc::Global;
 
@@ -143,6 +144,39 @@ impl Writer {
             return;
         }
         if put_annotation(self.alloc, &mut self.list, part).is_err() {
+            self.failed = true;
+        }
+    }
+
+    pub(crate) fn segments(&mut self, part: &Segments)
+        ensures { Adds self.old (segments_parts one inside opened part.now) self.new }
+    {
+        if self.failed {
+            return;
+        }
+        if put_segments(self.alloc, &mut self.list, part).is_err() {
+            self.failed = true;
+        }
+    }
+
+    pub(crate) fn output(&mut self, part: &Output)
+        ensures { Adds self.old (output_parts one inside opened part.now) self.new }
+    {
+        if self.failed {
+            return;
+        }
+        if put_output(self.alloc, &mut self.list, part).is_err() {
+            self.failed = true;
+        }
+    }
+
+    pub(crate) fn delimited(&mut self, part: &Delimited)
+        ensures { Adds self.old (delimited_parts one inside opened part.now) self.new }
+    {
+        if self.failed {
+            return;
+        }
+        if put_delimited(self.alloc, &mut self.list, part).is_err() {
             self.failed = true;
         }
     }

@@ -4,7 +4,8 @@ use Rattle.em_core.specs.declared.ty.Ty.{Ty, Unit, Def}
 use Rattle.em_core.specs.declared.expr.Expr.{Expr}
 use Rattle.em_core.specs.Rules.{Gives}
 use Rattle.em_core.specs.Examples.Drops.{fields}
-use Rattle.em_core.specs.Examples.Short.{scope, init, say, p, slot, move}
+use Rattle.em_core.specs.declared.program.Core.{Core}
+use Rattle.em_core.specs.Examples.Short.{scope, init, say, num, p, slot, move, main, program}
 
 -- the expression gives a value of the type in the main of `fields`, whose one slot is of type P
 abbrev pub InMain : Expr → Ty → Bool → Type 0
@@ -16,3 +17,7 @@ whole_main = scope (0 ∷ []) (init 0 (p 1 2) ∷ say (codes "end") ∷ [])
 -- a slot that is not there
 abbrev pub no_slot : Expr
 no_slot = move (slot 1)
+
+-- fn main() with a slot that it doesn't have
+abbrev pub slot_out_of_range : Core
+slot_out_of_range = program (main [] (init 0 (num 1)) [] ∷ [])

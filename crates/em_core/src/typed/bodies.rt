@@ -96,16 +96,16 @@ fn is_unit(ty: &Ty) -> bool
     matches!(ty, Ty::Unit)
 }
 
-fn is_def_of(def: u32, ty: &Ty) -> bool
+fn is_def_of(def: usize, ty: &Ty) -> bool
     ensures { result ≡ typed.is_unique_def def (out-Ty ty.now) }
 {
     match ty {
-        Ty::Def(found) => def == *found,
+        Ty::Def(found) => def == *found as usize,
         _ => false,
     }
 }
 
-fn is_drop_parameter(def: u32, ty: &Ty) -> bool
+fn is_drop_parameter(def: usize, ty: &Ty) -> bool
     ensures { result ≡ typed.is_drop_parameter def (out-Ty ty.now) }
 {
     match ty {
@@ -115,7 +115,7 @@ fn is_drop_parameter(def: u32, ty: &Ty) -> bool
 }
 
 #[tactic(auto, unfolding(crate::specs::Typed::IsDropFor))]
-fn is_drop_for(def: u32, function: &Function) -> bool
+fn is_drop_for(def: usize, function: &Function) -> bool
     ensures { IsTrue result ↔ IsDropFor def function.now }
 {
     match function.parameters.as_slice() {
@@ -125,7 +125,7 @@ fn is_drop_for(def: u32, function: &Function) -> bool
 }
 
 #[tactic(auto, unfolding(crate::specs::Typed::DropOk))]
-fn drop_ok(core: &Core, def: u32, drop: Option<u32>) -> bool
+fn drop_ok(core: &Core, def: usize, drop: Option<u32>) -> bool
     ensures { IsTrue result ↔ DropOk core.now def drop }
 {
     match drop {
@@ -184,7 +184,7 @@ fn copy_ok(core: &Core, ty: &TypeDef) -> bool
 
 /// Whether a struct or an enum is fine: its fields' types, its Drop function, and what `Copy` asks.
 #[tactic(auto, unfolding(crate::specs::Typed::DefOk))]
-pub fn def_ok(core: &Core, def: u32, ty: &TypeDef) -> bool
+pub fn def_ok(core: &Core, def: usize, ty: &TypeDef) -> bool
     ensures { IsTrue result ↔ DefOk core.now def ty.now }
 {
     all_fields_ok(core, ty.variants.as_slice()) && drop_ok(core, def, ty.drop) && copy_ok(core, ty)

@@ -1,6 +1,6 @@
 //! The operands of an expression, and the types that a type is made of, by number.
 
-ghost use Rattle.std.specs.Prelude.{◌≡◌, ◌<◌, ◌+◌, [], ◌∷◌, IfSome, OnSome, length, slice_get, slice_index_or};
+ghost use Rattle.std.specs.Prelude.{◌≡◌, ◌⊎◌, ◌<◌, ◌+◌, [], ◌∷◌, IfSome, OnSome, length, slice_get, slice_index_or};
 ghost use Rattle.std.specs.Option.{option_copied};
 ghost use Rattle.em_core.specs.declared.ty.Ty.{out-Ty, size-Ty};
 ghost use Rattle.em_core.specs.declared.expr.Arm.{out-Arm};
@@ -19,31 +19,26 @@ pub fn child_at(e: &Expr, at: usize) -> Option<&Expr>
     ensures smaller { IfSome result (λ c. size-Expr c.now < size-Expr e.now) }
 {
     match e {
-        Expr::Init { value, .. } => only(value, at),
-        Expr::Assign { value, .. } => only(value, at),
-        Expr::Unary(_, value) => only(value, at),
-        Expr::Binary(_, a, b) => match at {
-            0 => Some(a.get()),
-            1 => Some(b.get()),
-            _ => None,
-        },
-        Expr::Compare(_, a, b) => match at {
-            0 => Some(a.get()),
-            1 => Some(b.get()),
-            _ => None,
-        },
+        Expr::Init { value, .. } | Expr::Assign { value, .. } | Expr::DropValue { value, .. } => {
+            only(value, at)
+        }
+        Expr::BoxNew { value, .. } | Expr::PanicValue { value, .. } | Expr::Unsize { value, .. } =>
+            { only(value, at) }
+        Expr::Unary(_, value) | Expr::Loop(value) | Expr::Return(value) => only(value, at),
+        Expr::ToIter(value) | Expr::ToRefIter(value) => only(value, at),
+        Expr::Repeat { element, .. } => only(element, at),
+        Expr::Scope { body, .. } => only(body, at),
+        Expr::Binary(_, a, b) => pair(a, b, at),
+        Expr::Compare(_, a, b) => pair(a, b, at),
+        Expr::RangeOf { low, high, .. } => pair(low, high, at),
         Expr::Build { fields, .. } => item(fields.as_slice(), at),
         Expr::ArrayOf { elements, .. } => item(elements.as_slice(), at),
-        Expr::Repeat { element, .. } => only(element, at),
-        Expr::BoxNew { value, .. } => only(value, at),
-        Expr::RangeOf { low, high, .. } => match at {
-            0 => Some(low.get()),
-            1 => Some(high.get()),
-            _ => None,
-        },
         Expr::Call { arguments, .. } => item(arguments.as_slice(), at),
         Expr::CallDyn { arguments, .. } => item(arguments.as_slice(), at),
         Expr::CallBy { arguments, .. } => item(arguments.as_slice(), at),
+        Expr::Print { arguments, .. } => item(arguments.as_slice(), at),
+        Expr::Panic { arguments, .. } => item(arguments.as_slice(), at),
+        Expr::Seq(parts) => item(parts.as_slice(), at),
         Expr::CallOnce { closure, arguments } => match at {
             0 => Some(closure.get()),
             _ => item(arguments.as_slice(), at - 1),
@@ -54,9 +49,7 @@ pub fn child_at(e: &Expr, at: usize) -> Option<&Expr>
             otherwise,
         } => match at {
             0 => Some(condition.get()),
-            1 => Some(then.get()),
-            2 => Some(otherwise.get()),
-            _ => None,
+            _ => pair(then, otherwise, at - 1),
         },
         Expr::Match { arms, .. } => {
             let arms = arms.as_slice();
@@ -66,17 +59,18 @@ pub fn child_at(e: &Expr, at: usize) -> Option<&Expr>
                 None
             }
         }
-        Expr::Loop(body) => only(body, at),
-        Expr::Return(value) => only(value, at),
-        Expr::Scope { body, .. } => only(body, at),
-        Expr::Seq(parts) => item(parts.as_slice(), at),
-        Expr::Print { arguments, .. } => item(arguments.as_slice(), at),
-        Expr::Panic { arguments, .. } => item(arguments.as_slice(), at),
-        Expr::PanicValue { value, .. } => only(value, at),
-        Expr::ToIter(value) => only(value, at),
-        Expr::ToRefIter(value) => only(value, at),
-        Expr::DropValue { value, .. } => only(value, at),
-        Expr::Unsize { value, .. } => only(value, at),
+        _ => None,
+    }
+}
+
+fn pair<'a>(first: &'a Boxed<Expr>, second: &'a Boxed<Expr>, at: usize) -> Option<&'a Expr>
+    ensures within { OnSome result (at < 2) }
+    ensures child { option_copied result ≡ slice_get (first.now ∷ second.now ∷ []) at }
+    ensures one { IfSome result (λ c. (c.now ≡ first.now) ⊎ (c.now ≡ second.now)) }
+{
+    match at {
+        0 => Some(first.get()),
+        1 => Some(second.get()),
         _ => None,
     }
 }

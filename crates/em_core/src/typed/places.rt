@@ -194,7 +194,7 @@ fn begins_with(path: &[FieldStep], front: &[FieldStep]) -> bool
     }
 }
 
-fn are_apart(path: &[FieldStep], other: &[FieldStep]) -> bool
+pub fn are_apart(path: &[FieldStep], other: &[FieldStep]) -> bool
     ensures { result ≡ naming.are_apart path.now other.now }
 {
     !begins_with(path, other) && !begins_with(other, path)

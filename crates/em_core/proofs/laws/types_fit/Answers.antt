@@ -1,4 +1,4 @@
-use Rattle.std.proofs.Common.{refl, ◌≡◌, ◌<◌, ℕ, zero, suc, Bool, false, List, [], ◌∷◌, inl, arith, codes}
+use Rattle.std.proofs.Common.{refl, ◌<◌, zero, suc, false, List, [], ◌∷◌, inl, arith, codes}
 use Rattle.std.specs.Prelude.{All}
 use Rattle.em_core.specs.declared.ty.Ty.{Ty, Unit, Def}
 use Rattle.em_core.specs.declared.expr.Expr.{Expr}

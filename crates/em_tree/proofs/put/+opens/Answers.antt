@@ -1,4 +1,4 @@
-use Rattle.std.proofs.Common.{◌≡◌, ◌++◌, rules}
+use Rattle.std.proofs.Common.{rules}
 use Rattle.em_tree.proofs.Opened.{puts_token, puts_group}
 use Rattle.em_tree.proofs.put.+opens.Goals as goal
 

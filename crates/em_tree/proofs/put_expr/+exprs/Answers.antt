@@ -1,4 +1,4 @@
-use Rattle.std.proofs.Common.{◌≡◌, ◌++◌, ◌∷◌, [], rules}
+use Rattle.std.proofs.Common.{[], rules}
 use Rattle.std.proofs.Common.{ap, sym, ◌∙◌}
 use Rattle.em_tree.specs.Parts.{maybe, block_parts, body_parts}
 use Rattle.em_tree.specs.Yields.{one, inside, opened}

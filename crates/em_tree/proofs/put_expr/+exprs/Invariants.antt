@@ -1,4 +1,4 @@
-use Rattle.std.proofs.Common.{◌≡◌, ◌++◌, drop}
+use Rattle.std.proofs.Common.{drop}
 use Rattle.em_tree.specs.Parts.{arm_parts, each, else_if_parts, expr_parts, field_expr_parts, listed_parts, stmt_parts}
 use Rattle.em_tree.specs.Yields.{one, inside, opened}
 use Rattle.em_tree.specs.Adding.{Goes}

@@ -1,4 +1,4 @@
-use Rattle.std.proofs.Common.{◌≡◌, ◌++◌, ◌∷◌, [], rules}
+use Rattle.std.proofs.Common.{rules}
 use Rattle.em_tree.proofs.Puts.{puts_pat_group, puts_pat_literal, puts_pat_name, puts_pat_path, puts_pat_range, puts_pat_struct, puts_pat_tuple, puts_pat_wild}
 use Rattle.em_tree.proofs.put_pat.+pats.Goals as goal
 

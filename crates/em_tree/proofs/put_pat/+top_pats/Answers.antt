@@ -1,4 +1,4 @@
-use Rattle.std.proofs.Common.{◌≡◌, ◌++◌, ◌∷◌, [], rules}
+use Rattle.std.proofs.Common.{rules}
 use Rattle.em_tree.proofs.Puts.{puts_top_pat_alternatives, puts_top_pat_group}
 use Rattle.em_tree.proofs.put_pat.+top_pats.Goals as goal
 

@@ -1,4 +1,4 @@
-use Rattle.std.proofs.Common.{◌≡◌, ◌++◌, ◌∷◌, [], rules}
+use Rattle.std.proofs.Common.{rules}
 use Rattle.em_tree.proofs.Puts.{puts_literal_group, puts_literal_negative, puts_literal_token}
 use Rattle.em_tree.proofs.put_type.+literals.Goals as goal
 

@@ -1,4 +1,4 @@
-use Rattle.std.proofs.Common.{◌≡◌, ◌++◌, ◌∷◌, [], rules}
+use Rattle.std.proofs.Common.{rules}
 use Rattle.em_tree.proofs.Puts.{puts_bound_call, puts_bound_path, puts_output_type, puts_path_group, puts_path_plain, puts_path_qualified, puts_type_tree_array, puts_type_tree_bare, puts_type_tree_boxed, puts_type_tree_dyn, puts_type_tree_group, puts_type_tree_path, puts_type_tree_ref, puts_type_tree_ref_ref, puts_type_tree_slice, puts_type_tree_unit}
 use Rattle.em_tree.proofs.put_type.+types.Goals as goal
 

@@ -1,10 +1,10 @@
 use Rattle.std.proofs.Common.{◌∙◌}
 use Rattle.em_base.specs.Words.{texts}
-use Rattle.em_tree.specs.Starts.{path_starts}
-use Rattle.em_tree.proofs.Tables.{among_same}
+use Rattle.em_tree.specs.Starts.{spelling, path_starts}
+use Rattle.em_tree.proofs.Tables.{one_of_same}
 use Rattle.em_tree.proofs.start_sets.is_path_word.Goals as goal
 
 pub returns : goal.returns
 returns c =
     let table = c.path_words in
-    c.is_spelled.ensures ∙ among_same (texts table.result) path_starts c.args.token.now.text table.ensures.within table.ensures.whole
+    c.is_spelled.ensures ∙ one_of_same (texts table.result) path_starts (spelling c.args.token.now) table.ensures.within table.ensures.whole

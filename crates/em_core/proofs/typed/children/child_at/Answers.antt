@@ -1,4 +1,4 @@
-use Rattle.std.proofs.Common.{rules, ◌≡◌, ap, sym, ◌∙◌, refl, map}
+use Rattle.std.proofs.Common.{rules, ap, sym, ◌∙◌, map}
 use Rattle.std.specs.Prelude.{slice_get}
 use Rattle.em_core.specs.declared.expr.Arm.{out-Arm}
 use Rattle.em_core.specs.declared.expr.Expr.{out-Expr}

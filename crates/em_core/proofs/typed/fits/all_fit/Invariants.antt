@@ -1,4 +1,4 @@
-use Rattle.std.proofs.Common.{◌≡◌, ℕ, ◌<◌, slice_index_or}
+use Rattle.std.proofs.Common.{ℕ, ◌<◌, slice_index_or}
 use Rattle.em_core.specs.declared.ty.Ty.{Ty}
 use Rattle.em_core.specs.Fitting.{Fits}
 use Rattle.em_core.proofs.typed.fits.all_fit.Given as goal

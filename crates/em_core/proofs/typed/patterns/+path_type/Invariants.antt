@@ -1,4 +1,4 @@
-use Rattle.std.proofs.Common.{ℕ, length}
+use Rattle.std.proofs.Common.{length}
 use Rattle.em_core.proofs.typed.patterns.+path_type.Given as goal
 
 abbrev pub decreases-path_type : goal.decreases-path_type

@@ -1,4 +1,4 @@
-use Rattle.std.proofs.Common.{ℕ, length}
+use Rattle.std.proofs.Common.{length}
 use Rattle.em_core.proofs.typed.places.+begins_with.Given as goal
 
 abbrev pub decreases-begins_with : goal.decreases-begins_with

@@ -1,4 +1,4 @@
-use Rattle.std.proofs.Common.{ℕ, length}
+use Rattle.std.proofs.Common.{length}
 use Rattle.em_core.proofs.typed.places.+part_type.Given as goal
 
 abbrev pub decreases-part_type : goal.decreases-part_type

@@ -1,4 +1,4 @@
-use Rattle.std.proofs.Common.{ℕ, length}
+use Rattle.std.proofs.Common.{length}
 use Rattle.em_core.proofs.typed.places.+steps_type.Given as goal
 
 abbrev pub decreases-steps_type : goal.decreases-steps_type

@@ -1,4 +1,4 @@
-use Rattle.std.proofs.Common.{rules, ◌≡◌, refl}
+use Rattle.std.proofs.Common.{rules, refl}
 use Rattle.em_core.proofs.TypeLemmas.{type_of, before_none}
 use Rattle.em_core.proofs.typed.type_ok.+type_ok.Goals as goal
 

@@ -1,8 +1,8 @@
-use Rattle.std.proofs.Common.{rules, arith, ◌≡◌, refl, sym}
+use Rattle.std.proofs.Common.{rules, arith, refl}
 use Rattle.em_core.specs.declared.expr.Expr.{out-Expr}
 use Rattle.em_core.specs.Nodes.{children}
 use Rattle.em_core.specs.Rules.{in_loop}
-use Rattle.em_core.proofs.GivesLemmas.{by_operands_ok, start, step, none_by_operand, by_operands, at_inside, fewer_types, other_ends, none_of}
+use Rattle.em_core.proofs.GivesLemmas.{by_operands_ok, start, step, none_by_operand, at_inside, fewer_types, other_ends, none_of}
 use Rattle.em_core.proofs.typed.scene.Scene.+type_of.Goals as goal
 
 pub loop-child-init : goal.loop-child-init

@@ -1,4 +1,4 @@
-use Rattle.std.proofs.Common.{◌≡◌, ℕ, ◌-◌, length, take}
+use Rattle.std.proofs.Common.{◌-◌, length, take}
 use Rattle.em_core.specs.declared.expr.Expr.{out-Expr, size-Expr}
 use Rattle.em_core.specs.Nodes.{children}
 use Rattle.em_core.specs.Rules.{in_loop}

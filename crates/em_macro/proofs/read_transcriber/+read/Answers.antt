@@ -1,0 +1,36 @@
+use Rattle.std.proofs.Common.{◌≡◌, ◌<◌, ◌++◌, ◌∙◌, Err, rules, arith, false, true}
+use Rattle.std.proofs.lemmas.Grind.{common_steps}
+use Rattle.em_macro.specs.Steps.{Done, and_then, copies, transcriber, at_close}
+use Rattle.em_macro.proofs.Turns.{one_more, no_more, deeper}
+use Rattle.em_macro.proofs.ReadTurns.{read_by, read_same, copies_go, copies_stop, copies_end}
+use Rattle.em_macro.proofs.read_transcriber.+read.Goals as goal
+
+pub copies-returns-in_err-one : goal.copies-returns-in_err-one
+copies-returns-in_err-one t c =
+    let is : c.from_residual.result ≡ Err c.in_err-one.field-0.0 = first_of (search rules, grind (arith, common_steps)) in
+    let opened : at_close c.loop-turn.input.rest.now ≡ false = first_of (search rules, grind (arith, common_steps)) in
+    let e = one_more (λ n. and_then (copies (transcriber c.args.depth) n c.loop-turn.input.rest.now) (λ y s. Done (c.loop-turn.found ++ y) s)) _ c.loop-turn._turn c.loop-turn-test.true c.loop-turn.invariant in
+    read_by _ _ c.from_residual.result c.in_err-one.field-0.0 c.copy.new.input.rest.now e is
+    (copies_stop (transcriber c.args.depth) _ c.loop-turn.input.rest.now c.copy.new.input.rest.now c.loop-turn.found c.in_err-one.field-0.0 opened c.in_err-one.ensures)
+
+pub copies-returns-then-at_close : goal.copies-returns-then-at_close
+copies-returns-then-at_close t c =
+    let close : at_close c.loop-turn.input.rest.now ≡ true = first_of (search rules, grind (arith, common_steps)) in
+    let e = one_more (λ n. and_then (copies (transcriber c.args.depth) n c.loop-turn.input.rest.now) (λ y s. Done (c.loop-turn.found ++ y) s)) _ c.loop-turn._turn c.loop-turn-test.true c.loop-turn.invariant in
+    e ∙ copies_end (transcriber c.args.depth) _ c.loop-turn.input.rest.now c.loop-turn.found close
+
+pub copies-loop-turn-preserved : goal.copies-loop-turn-preserved
+copies-loop-turn-preserved t c =
+    let opened : at_close c.loop-turn.input.rest.now ≡ false = first_of (search rules, grind (arith, common_steps)) in
+    let e = one_more (λ n. and_then (copies (transcriber c.args.depth) n c.loop-turn.input.rest.now) (λ y s. Done (c.loop-turn.found ++ y) s)) _ c.loop-turn._turn c.loop-turn-test.true c.loop-turn.invariant in
+    e ∙ copies_go (transcriber c.args.depth) _ c.loop-turn.input.rest.now c.copy.new.input.rest.now c.loop-turn.found c.push.new.self c.in_ok-one.one opened (search rules) (search rules)
+
+pub copies-returns : goal.copies-returns
+unfolding copies
+copies-returns t c = no_more (λ n. and_then (copies (transcriber c.args.depth) n c.loop-turn.input.rest.now) (λ y s. Done (c.loop-turn.found ++ y) s)) _ c.loop-turn._turn c.loop-turn-test.false c.loop-turn.invariant
+
+pub read-returns : goal.read-returns
+unfolding transcriber
+read-returns t c =
+    let some : 0 < c.args.depth = omega arith in
+    read_same _ _ c.copies.result c.copies.new.input.rest.now (deeper (λ n. transcriber n c.args.input.now.rest.now) c.args.depth some) c.copies.ensures

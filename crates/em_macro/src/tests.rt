@@ -1,0 +1,4 @@
+mod deciding;
+mod matching;
+mod one_piece;
+mod texts;

@@ -1,0 +1,17 @@
+pub mod Answers
+pub mod Blank
+pub mod Calls
+pub mod Decided
+pub mod Depths
+pub mod Exprs
+pub mod Gives
+pub mod Items
+pub mod Lets
+pub mod Parse
+pub mod PatKnot
+pub mod PatParts
+pub mod PathParts
+pub mod Strength
+pub mod Texts
+pub mod TypeKnot
+pub mod TypeParts

@@ -1,0 +1,8 @@
+use Rattle.std.proofs.Common.{drop}
+use Rattle.em_tree.specs.Parts.{trait_fn_parts, each}
+use Rattle.em_tree.specs.Yields.{one, inside, opened}
+use Rattle.em_tree.specs.Adding.{Goes}
+use Rattle.em_tree.proofs.put_item.add_trait_fns.Given as goal
+
+abbrev pub invariant-loop-part : goal.invariant-loop-part
+invariant-loop-part l = Goes l.fn.out l.out (each (trait_fn_parts one inside opened) (drop l.part-index l.list)) (each (trait_fn_parts one inside opened) l.list)
