@@ -6,6 +6,7 @@ pub mod Ends
 pub mod ExprDepths
 pub mod FileHeads
 pub mod Groups
+pub mod Impls
 pub mod ItemDepths
 pub mod ItemLists
 pub mod Lets
@@ -14,6 +15,7 @@ pub mod PatDepths
 pub mod PatGroups
 pub mod PatSteps
 pub mod Places
+pub mod Rows
 pub mod Shallow
 pub mod Sigs
 pub mod Singles

@@ -7,19 +7,21 @@ use Rattle.em_tree.specs.declared.parts.Listed.{Listed}
 use Rattle.em_tree.specs.declared.literal.Literal.{Literal}
 use Rattle.em_tree.specs.declared.types.Output.{Output}
 use Rattle.em_tree.specs.declared.types.Output.TheVariants as result
+use Rattle.em_tree.specs.declared.types.Path.{Path}
 use Rattle.em_tree.specs.declared.types.TypeTree.{TypeTree}
 use Rattle.em_tree.specs.declared.pat.Pat.{Pat}
+use Rattle.em_tree.specs.declared.item.ImplFn.{ImplFn}
+use Rattle.em_tree.specs.declared.item.ImplTrait.{ImplTrait}
 use Rattle.em_tree.specs.declared.item.MetaInput.{MetaInput}
 use Rattle.em_tree.specs.declared.item.StructFields.{StructFields}
 use Rattle.em_tree.specs.declared.item.VariantFields.{VariantFields}
 use Rattle.em_tree.specs.declared.item.UseName.{UseName}
-use Rattle.em_tree.specs.declared.item.ItemBody.{ItemBody}
 use Rattle.em_tree.specs.declared.item.Item.{Item}
 use Rattle.em_tree.specs.Starts.{Pieces}
 use Rattle.em_grammar.specs.declared.sort.Written.{Written}
 use Rattle.em_grammar.specs.declared.sort.Written.TheVariants as word
 use Rattle.em_grammar.specs.Sets.{next, is_sign}
-use Rattle.em_grammar.specs.Reader.{Read, seq, mapped, choice, list_of}
+use Rattle.em_grammar.specs.Reader.{Read, seq, mapped, choice, opt, when, all_of, list_of, group}
 use Rattle.em_grammar.specs.LiteralReader.{literal_in}
 use Rattle.em_grammar.specs.TextReader.{delimited}
 use Rattle.em_grammar.specs.ItemReader as item
@@ -82,11 +84,43 @@ arrow_type ty = mapped (λ t. result.Type t.0 t.1) (seq (mark word.RArrow) ty)
 abbrev pub names : Pieces → Read (Token × (List (Listed UseName) × (Token × Token)))
 names = seq (mark word.OpenBrace) (seq (list_of item.use_name) (seq (mark word.CloseBrace) (mark word.Semi)))
 
-abbrev pub annotation : (Pieces → Read TypeTree) → Pieces → Read (Token × TypeTree)
-annotation ty = seq (mark word.Colon) ty
-
 abbrev pub const_value : ℕ → Pieces → Read (Token × (Literal × Token))
 const_value n = seq (mark word.Eq) (seq (literal_in true n) (mark word.Semi))
 
-abbrev pub const_with : Token → Token → Token × TypeTree → Token × (Literal × Token) → ItemBody Item
-const_with w n a v = item.const_of (w, (n, (a.0, (a.1, (v.0, (v.1.0, v.1.1))))))
+abbrev pub typed_value : (Pieces → Read TypeTree) → ℕ → Pieces → Read (TypeTree × (Token × (Literal × Token)))
+typed_value ty n = seq ty (const_value n)
+
+-- ---- modules
+
+-- items in their braces
+abbrev pub mod_block : (Pieces → Read Item) → Pieces → Read (Token × (List Item × Token))
+mod_block items = seq (mark word.OpenBrace) (seq (all_of items) (mark word.CloseBrace))
+
+-- ---- impls
+
+-- `for` and the type behind it, where this type may stand before it
+abbrev pub for_type : item.Inner → TypeTree → Pieces → Read (Token × TypeTree)
+for_type inner t = when (item.has_path (item.trait_path t)) (seq (mark word.For) inner.types)
+
+abbrev pub impl_functions : item.Inner → Pieces → Read (Token × (List ImplFn × Token))
+impl_functions inner = seq (mark word.OpenBrace) (seq (all_of (item.impl_fn inner)) (mark word.CloseBrace))
+
+abbrev pub of_trait : Option Path → Token → Option ImplTrait
+of_trait None t = None
+of_trait (Some x) t = Some (record { path = x; word_for = t })
+
+abbrev types_by : TypeTree → Option (Token × TypeTree) → Option ImplTrait × TypeTree
+types_by t None = (None, t)
+types_by t (Some u) = (of_trait (item.trait_path t) u.0, u.1)
+
+-- the trait of an impl and its type
+abbrev pub impl_types : item.ImplHead → Option ImplTrait × TypeTree
+impl_types h = types_by h.0 h.1
+
+-- ---- items
+
+abbrev pub plain_item : item.Inner → Pieces → Read Item
+plain_item inner = mapped item.plain_item_of (seq (all_of (item.attribute inner.nested)) (seq (opt item.vis) (item.item_body inner)))
+
+abbrev pub item_group : (Pieces → Read Item) → Pieces → Read Item
+item_group opened = mapped item.item_group_of (group item.is_item_group opened)

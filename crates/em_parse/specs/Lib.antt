@@ -11,6 +11,7 @@ pub mod Parse
 pub mod PatKnot
 pub mod PatParts
 pub mod PathParts
+pub mod Rows
 pub mod Strength
 pub mod Texts
 pub mod TypeKnot

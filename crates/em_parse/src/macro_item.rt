@@ -72,7 +72,7 @@ fn finished(
     ended(alloc, input)
 }
 
-fn is_macro(token: &Token) -> bool
+pub fn is_macro(token: &Token) -> bool
     ensures { result ≡ spec.macro_sort (sort_of token.now) }
 {
     is_name(token) || is_weak(Weak::MacroRules, token)
