@@ -16,7 +16,7 @@ use crate::list::rows;
 use crate::stop::Stop;
 use em_base::Token;
 use em_grammar::Written;
-use em_tree::{Annotation, ClosureHead, ClosureParam, Expr, Shared, TypeTree};
+use em_tree::{Annotation, Block, Body, ClosureHead, ClosureParam, Expr, Shared, TypeTree};
 use sqlite_items::{Boxed, Items};
 use std::alloc::Global;
 
