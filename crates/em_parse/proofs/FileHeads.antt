@@ -8,9 +8,9 @@ use Rattle.em_grammar.specs.Reader.{Read, Found, Absent, Deep, all_of}
 use Rattle.em_grammar.specs.ItemReader.{file_attribute}
 use Rattle.em_grammar.specs.ItemLaws.{FileAttributesExact, FileAttributesEnd}
 use Rattle.std.specs.Prelude.{Result, Err}
-use Rattle.em_parse.specs.declared.stop.Stop.{Stop}
-use Rattle.em_parse.specs.declared.stop.Stop.TheVariants as stop
-use Rattle.em_parse.specs.Parse.{Reads}
+use Rattle.em_read.specs.declared.stop.Stop.{Stop}
+use Rattle.em_read.specs.declared.stop.Stop.TheVariants as stop
+use Rattle.em_read.specs.Parse.{Reads}
 use Rattle.em_parse.specs.Calls.{most, of_tokens, Attributes}
 use Rattle.em_parse.proofs.Shallow.{attributes_shallow, attributes_some}
 

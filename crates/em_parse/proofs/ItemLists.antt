@@ -13,9 +13,9 @@ use Rattle.em_grammar.specs.ItemReader.{item_start, item_in}
 use Rattle.em_grammar.specs.ItemLaws.{ItemsRead, ItemsExact}
 use Rattle.em_grammar.specs.NestLaws.{ItemsNest}
 use Rattle.std.specs.Prelude.{Result, Err}
-use Rattle.em_parse.specs.declared.stop.Stop.{Stop}
-use Rattle.em_parse.specs.declared.stop.Stop.TheVariants as stop
-use Rattle.em_parse.specs.Parse.{Reads}
+use Rattle.em_read.specs.declared.stop.Stop.{Stop}
+use Rattle.em_read.specs.declared.stop.Stop.TheVariants as stop
+use Rattle.em_read.specs.Parse.{Reads}
 use Rattle.em_parse.specs.Answers.{Stops}
 use Rattle.em_parse.specs.Calls.{most, TooDeep, AreItems, NoItemStands}
 

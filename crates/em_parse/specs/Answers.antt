@@ -9,8 +9,8 @@ use Rattle.em_tree.specs.declared.piece.FragmentKind.{FragmentKind}
 use Rattle.em_tree.specs.Starts.{Pieces, starts}
 use Rattle.em_parse.specs.declared.error.ParseError.{ParseError}
 use Rattle.em_parse.specs.declared.error.ParseError.TheVariants as parse
-use Rattle.em_parse.specs.declared.stop.Stop.{Stop}
-use Rattle.em_parse.specs.declared.stop.Stop.TheVariants as stop
+use Rattle.em_read.specs.declared.stop.Stop.{Stop}
+use Rattle.em_read.specs.declared.stop.Stop.TheVariants as stop
 use Rattle.em_parse.specs.Calls.{NoItemStands, DeepItemStands, AreItems, AreNoItems, AreDeepItems, NoItemAt, DeepItemAt, IsDeepBody, IsNoBody, IsBroken, IsDeepFragment}
 
 -- why reading items stops before these pieces

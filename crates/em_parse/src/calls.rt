@@ -7,7 +7,7 @@ ghost use Rattle.em_grammar.specs.Reader as read;
 ghost use Rattle.em_grammar.specs.ExprKnot as knot;
 ghost use Rattle.em_grammar.specs.FragmentLaws as law;
 ghost use Rattle.em_grammar.specs.ItemReader as spec;
-ghost use Rattle.em_parse.specs.Parse.{Reads};
+ghost use Rattle.em_read.specs.Parse.{Reads};
 ghost use Rattle.em_grammar.specs.NestLaws.{node_nesting};
 ghost use Rattle.em_parse.specs.Calls.{most, of_tokens, AreItems, Attributes, IsWhole, IsLongest};
 ghost use Rattle.em_base.specs.declared.token.Token.{Token};
@@ -15,14 +15,13 @@ ghost use Rattle.em_tree.specs.Starts.{Pieces};
 ghost use Rattle.em_tree.specs.declared.piece.Piece.TheVariants as piece;
 ghost use Rattle.em_parse.specs.Answers.{refusal_of, Stops, ItemsStop, FileRefuses, ItemsRefuse, BodyRefuses, FragmentRefuses};
 
-use crate::cursor::Cursor;
 use crate::error::ParseError;
-use crate::nesting::{
+use em_base::{Edition, List, NoMemory, Token, Tokens, between, rest_from};
+use em_nesting::{
     block_within, body_within, expr_within, item_within, pat_within, path_within, stmt_within,
     top_pat_within, type_within,
 };
-use crate::stop::Stop;
-use em_base::{Edition, List, NoMemory, Token, Tokens, between, rest_from};
+use em_read::{Cursor, Stop};
 use em_tree::{
     Body, FileAttribute, FileTree, FragError, Fragment, FragmentKind, FragmentNode, Item, Piece,
     PieceList, Shared, starts,

@@ -1,0 +1,4 @@
+pub mod ExprDepths
+pub mod ItemDepths
+pub mod PatDepths
+pub mod TypeDepths

@@ -1,5 +1,0 @@
-use Rattle.std.proofs.Common.{◌+◌}
-use Rattle.em_parse.proofs.pat_knot.+pat_in.Given as goal
-
-abbrev pub decreases-pat_in : goal.decreases-pat_in
-decreases-pat_in l = l.groups + l.depth

@@ -1,0 +1,4 @@
+pub mod Editions
+pub mod PatGroups
+pub mod PatSteps
+pub mod TypeSteps
