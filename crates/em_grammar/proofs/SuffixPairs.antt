@@ -88,13 +88,13 @@ module _ (H : Pieces → Type 0) (depth : ℕ) (s : Readers) (a : Ground H depth
       (image_in Numbered dot_pieces (λ d t m. refl) (λ d t m i is. is) a.int) refl
 
   dotted_yield : (t : Token × DotForm) → suffix_pieces (dotted_of t) ≡ joined piece dot_pieces t
-  dotted_yield (dot, Named (name, None)) = refl
-  dotted_yield (dot, Named (name, Some t)) = refl
+  dotted_yield (dot, Named (label, None)) = refl
+  dotted_yield (dot, Named (label, Some t)) = refl
   dotted_yield (dot, Numbered x) = refl
 
   dotted_clear : (h : Bool) (t : Token × DotForm) (i : Pieces) → next (suffix_clear h (dotted_of t)) i ≡ true → next (dot_clear t.1) i ≡ true
-  dotted_clear h (dot, Named (name, None)) i is = is
-  dotted_clear h (dot, Named (name, Some t)) i is = always i
+  dotted_clear h (dot, Named (label, None)) i is = is
+  dotted_clear h (dot, Named (label, Some t)) i is = always i
   dotted_clear h (dot, Numbered x) i is = always i
 
   dotted_pair : (h : Bool) → Pair H depth (Image dotted_of (Seq (λ d. Is (codes ".")) DotParts)) suffix_pieces (dotted s) (tokens (only word.Dot)) (suffix_clear h)
