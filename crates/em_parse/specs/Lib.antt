@@ -1,5 +1,3 @@
 pub mod Answers
 pub mod Calls
 pub mod Decided
-pub mod Laws
-pub mod Readings

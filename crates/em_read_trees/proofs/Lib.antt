@@ -1,2 +1,0 @@
-pub mod ExprSteps
-pub mod ItemSteps

@@ -1,2 +1,0 @@
-pub mod ExprKnots
-pub mod ItemKnot
