@@ -17,7 +17,7 @@ use Rattle.em_tree.specs.Parts.{each, maybe}
 use Rattle.em_tree.specs.Yields.{piece}
 use Rattle.em_tree.specs.PatGrammar.{pat_pieces}
 use Rattle.em_tree.specs.ExprGrammar.{expr_pieces, block_pieces}
-use Rattle.em_tree.specs.ExprShape.{ends_open, ends_bare}
+use Rattle.em_tree.specs.ExprShape.{is_bare_block, ends_open, ends_bare}
 use Rattle.em_grammar.specs.declared.sort.Written.TheVariants as word
 use Rattle.em_grammar.specs.Sets.{Set, next, subset, tokens, either, both, others, anything, only, any_of}
 use Rattle.em_grammar.specs.Lang.{Image, joined}
@@ -178,10 +178,14 @@ module _ (H : Pieces → Type 0) (depth : ℕ) (s : Readers) (a : Ground H depth
   no_dots n true false h i k = in_subset block_first (both (base 0 true) (others dots_first)) refl i k
   no_dots n false y h i k = in_subset block_first (both (base 0 true) (others dots_first)) refl i k
 
+  is_first : (a b : Bool) → (a && b) ≡ true → a ≡ true
+  is_first true b h = refl
+  is_first false b h = h
+
   range_follows : (t : Range) → range_closed t ≡ true → (i : Pieces) → next block_first i ≡ true
       → next (more_clear (level_clear Anywhere 0 true) (λ _. dots_first) (λ _ u. level_clear Anywhere 4 true u.1) t) i ≡ true
   range_follows (x, None) h i k = no_dots 0 (ends_open x) (ends_bare x) h i k
-  range_follows (x, Some t) h i k = before_block 4 (ends_open t.1) (ends_bare t.1) h i k
+  range_follows (x, Some t) h i k = before_block 4 (ends_open t.1) (ends_bare t.1) (is_first (is_closed t.1) (not (is_bare_block t.1)) h) i k
 
   range_pair : Pair H depth RangeIs (joined expr_pieces (maybe (joined piece expr_pieces))) (range s) expr_first (λ _. block_first)
   range_pair =

@@ -22,7 +22,7 @@ use Rattle.em_tree.specs.declared.expr.Expr.TheOpen.{Expr-F}
 use Rattle.em_tree.specs.declared.expr.FieldExpr.{FieldExpr}
 use Rattle.em_tree.specs.Tokens.{Is, Maybe, Each, Commas}
 use Rattle.em_tree.specs.PatGrammar.{IsPat}
-use Rattle.em_tree.specs.ExprShape.{Edge, Fine, BlockLike, Braces, Round, PastBlock, PastBraces, dotted, past, strength, edge, ends_open, ends_bare}
+use Rattle.em_tree.specs.ExprShape.{Edge, Fine, BlockLike, Braces, Round, PastBlock, PastBraces, dotted, past, strength, edge, is_bare_block, ends_open, ends_bare}
 use Rattle.em_tree.specs.ExprGrammar as g
 use Rattle.em_tree.specs.ExprGrammar.{IsExpr, IsOperand, IsFieldExpr, IsAnnotation, AreParams, IsHead, BeforeBlock, IsCondition, IsElseIf, IsOtherwise, IsArm, EndsArm, AreArms, IsRange, AtLeast, IsBlock}
 use Rattle.em_grammar.specs.Lang.{Image, Lists}
@@ -297,17 +297,22 @@ and_both true true h = (refl, refl)
 and_both true false h = cc
 and_both false b h = cc
 
+and_true : (a b : Bool) → a ≡ true → b ≡ true → (a && b) ≡ true
+and_true true b h k = k
+and_true false b h k = h
+
 pub to_range : (d : ℕ) (t : Range) → RangeIs d t → IsRange d (IsExpr d) (deeper d) t.0 (dots_of t.1) (end_of t.1)
 to_range d (x, None) m = (m.0.0.0, not_false (ends_bare x) m.1)
 to_range d (x, Some t) m =
     let b = and_both (nat_le 4 (strength x)) (not (ends_open x)) m.0.1.0 in
-    (m.0.1.1.0, (m.0.0.0, leb-true 4 (strength x) b.0, not_false (ends_open x) b.1), (m.0.1.1.1.0, not_false (ends_bare t.1) m.1), m.0.1.1.1.1)
+    let c = and_both (not (ends_bare t.1)) (not (is_bare_block t.1)) m.1 in
+    (m.0.1.1.0, (m.0.0.0, leb-true 4 (strength x) b.0, not_false (ends_open x) b.1), (m.0.1.1.1.0, not_false (ends_bare t.1) c.0), m.0.1.1.1.1, not_false (is_bare_block t.1) c.1)
 
 pub of_range : (d : ℕ) (x : Expr) (dots : Option Token) (end : Option Expr) → IsRange d (IsExpr d) (deeper d) x dots end → (t : Range) × RangeIs d t × (t.0 ≡ x) × (dots_of t.1 ≡ dots) × (end_of t.1 ≡ end)
 of_range d x None None m = ((x, None), ((as_inner d true x m.0, tt), false_not (ends_bare x) m.1), refl, refl, refl)
 of_range d x (Some dots) (Some y) m = (
   (x, Some (dots, y)),
-  ((as_inner d true x m.1.0, (ap (λ b. b && not (ends_open x)) (le-leb 4 (strength x) m.1.1) ∙ false_not (ends_open x) m.1.2, (m.0, (m.2.0, m.3, refl)))), false_not (ends_bare y) m.2.1),
+  ((as_inner d true x m.1.0, (ap (λ b. b && not (ends_open x)) (le-leb 4 (strength x) m.1.1) ∙ false_not (ends_open x) m.1.2, (m.0, (m.2.0, m.3, refl)))), and_true (not (ends_bare y)) (not (is_bare_block y)) (false_not (ends_bare y) m.2.1) (false_not (is_bare_block y) m.4)),
   refl,
   refl,
   refl,

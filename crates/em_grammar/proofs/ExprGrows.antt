@@ -115,7 +115,7 @@ module _ (d e : ℕ) (I J D E : Bool → Expr → Type 0) (a : Deepens d e) (up 
 
   more_range : (x : Expr) (dots : Option Token) (y : Option Expr) → IsRange d I D x dots y → IsRange e J E x dots y
   more_range x None None m = (up true x m.0, m.1)
-  more_range x (Some dots) (Some y) m = (m.0, (up true x m.1.0, m.1.1, m.1.2), (up true y m.2.0, m.2.1), m.3)
+  more_range x (Some dots) (Some y) m = (m.0, (up true x m.1.0, m.1.1, m.1.2), (up true y m.2.0, m.2.1), m.3, m.4)
   more_range x None (Some y) m = absurd m
   more_range x (Some dots) None m = absurd m
 

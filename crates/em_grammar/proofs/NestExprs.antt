@@ -321,7 +321,7 @@ module _ (e d : ℕ) (I J D E : Bool → Expr → Type 0) (h : (b : Bool) (x : E
 
   range_within : (x : Expr) (w : Option Token) (o : Option Expr) → IsRange e I D x w o → max (expr_nesting x) (of_some expr_nesting o) ≤ d → IsRange d J E x w o
   range_within x None None m low = (h true x m.0 (omega (arith, low)), m.1)
-  range_within x (Some w) (Some y) m low = (m.0, (h true x m.1.0 (omega (arith, low)), m.1.1, m.1.2), (h true y m.2.0 (omega (arith, low)), m.2.1), m.3)
+  range_within x (Some w) (Some y) m low = (m.0, (h true x m.1.0 (omega (arith, low)), m.1.1, m.1.2), (h true y m.2.0 (omega (arith, low)), m.2.1), m.3, m.4)
   range_within x None (Some y) m low = absurd m
   range_within x (Some w) None m low = absurd m
 

@@ -13,7 +13,7 @@ use Rattle.em_tree.specs.declared.expr.Expr.TheVariants as made
 use Rattle.em_tree.specs.declared.expr.Expr.TheViews.{roll-ElseIf}
 use Rattle.em_tree.specs.declared.expr.Body.{Body}
 use Rattle.em_tree.specs.Starts.{Pieces}
-use Rattle.em_tree.specs.ExprShape.{strength, ends_open, ends_bare}
+use Rattle.em_tree.specs.ExprShape.{strength, is_bare_block, ends_open, ends_bare}
 use Rattle.em_grammar.specs.declared.sort.Written.TheVariants as word
 use Rattle.em_grammar.specs.Sorts.{sort_of}
 use Rattle.em_grammar.specs.Sets.{Set, tokens, others, both, anything, only, is_sign, any_of}
@@ -101,9 +101,10 @@ Range = Expr × Option (Token × Expr)
 abbrev pub is_bound : Expr → Bool
 is_bound x = nat_le 4 (strength x) && not (ends_open x)
 
+-- a block may stand behind it, and its end is none
 abbrev pub range_closed : Range → Bool
 range_closed (x, None) = is_closed x
-range_closed (x, Some t) = is_closed t.1
+range_closed (x, Some t) = is_closed t.1 && not (is_bare_block t.1)
 
 abbrev pub dots_of : Option (Token × Expr) → Option Token
 dots_of None = None

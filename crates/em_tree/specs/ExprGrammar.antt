@@ -36,7 +36,7 @@ use Rattle.em_tree.specs.Tokens.{Is, IsOneOf, Maybe, Each, Commas, Name, IsLiter
 use Rattle.em_tree.specs.Yields.{piece, whole, as_it_is, opened}
 use Rattle.em_tree.specs.PathGrammar.{IsLiteral, IsIntLiteral, TypeWithin, PathWithin, literal_pieces}
 use Rattle.em_tree.specs.PatGrammar.{IsPat, IsTopPat, pat_pieces}
-use Rattle.em_tree.specs.ExprShape.{strength, operator_strength, comparison, postfix, unary, assignment, takes_all, Edge, Fine, BlockLike, Braces, Round, PastBlock, edge, ends_open, ends_bare}
+use Rattle.em_tree.specs.ExprShape.{strength, operator_strength, comparison, postfix, unary, assignment, takes_all, Edge, Fine, BlockLike, Braces, Round, PastBlock, edge, is_bare_block, ends_open, ends_bare}
 
 abbrev pub expr_pieces : Expr → List Piece
 expr_pieces x = expr_parts piece whole as_it_is x
@@ -221,10 +221,11 @@ module _ (depth : ℕ) (Inner Deeper : (no_struct : Bool) → Expr → Type 0) w
   AreArms (a ∷ b ∷ more) = IsArm a × EndsArm false a × AreArms (b ∷ more)
 
   -- what a `for` goes over: the values of an expression, or a range, whose sides bind more tightly than an assignment; the right one may
-  -- take all that follows (Reference, "Expression precedence" and "Range expressions")
+  -- take all that follows (Reference, "Expression precedence" and "Range expressions"). A block behind the dots is the loop's body
   abbrev pub IsRange : Expr → Option Token → Option Expr → Type 0
   IsRange x None None = BeforeBlock x
-  IsRange x (Some dots) (Some y) = IsOneOf (codes ".." ∷ codes "..=" ∷ []) dots × AtLeast (suc assignment) true x × BeforeBlock y × IsOperand (suc assignment) y
+  IsRange x (Some dots) (Some y) =
+      IsOneOf (codes ".." ∷ codes "..=" ∷ []) dots × AtLeast (suc assignment) true x × BeforeBlock y × IsOperand (suc assignment) y × (is_bare_block y ≡ false)
   IsRange x None (Some y) = ⊥
   IsRange x (Some dots) None = ⊥
 

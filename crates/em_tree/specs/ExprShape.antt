@@ -112,6 +112,14 @@ edge_step _ = Fine
 unfoldable pub edge : Expr → Edge
 edge x = fold-Expr Edge (Unit {0}) (Unit {0}) (Unit {0}) edge_step (λ s. tt) (λ b. tt) (λ e. tt) x
 
+-- it is a block alone
+abbrev pub is_block_layer : Expr-F Expr Stmt Body ElseIf → Bool
+is_block_layer (Expr-F.Block b) = true
+is_block_layer _ = false
+
+abbrev pub is_bare_block : Expr → Bool
+is_bare_block x = is_block_layer (out-Expr x)
+
 -- ---- the right end
 
 -- what stands at the right end of an operator's expression, and false for a form that ends otherwise
