@@ -108,7 +108,7 @@ carried_decides law first mid left changes report s old new fb fn ob on m h r f 
     here : (o : Option Held) → IfSome o (λ held. Migrates held changes report) → (s ≡ Done) ⊎ (s ≡ NoMemory) → IfSome o (λ held. IsDecided held s)
     here None m e = tt
     here (Some held) m (inl e) = subst (λ t. IsDecided held t) (sym e) (law held changes report m)
-    here (Some held) m (inr e) = record { done = λ m p. inr e; limit = λ which t. inr e; lex = λ place kind t. inr e; unbuilt = λ u. inr e }
+    here (Some held) m (inr e) = record { done = λ m p. inr e; limit = λ which t. inr e; lex = λ place kind t. inr e; parse = λ place t. inr e; nesting = λ which t. inr e; unbuilt = λ u. inr e }
 
 -- a package that is refused with no fault decides the refusal
 pub refused_decides : RefusalsAreDecided → (first : Option Held) (s : Status) (before now : ℕ) → IsRefusal s before now → IfSome first (λ held. Refuses held s) → (Rose before now → ⊥) → IfSome first (λ held. IsDecided held s)

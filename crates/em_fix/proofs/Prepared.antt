@@ -13,7 +13,7 @@ use Rattle.em_fix.specs.Migration.{HoldsShort, HoldsLong, HasManifest, IsUnbuilt
 use Rattle.em_fix.specs.Answers.{FetchRefuses, SourceRefuses, IsRefusal, Refuses}
 use Rattle.em_fix.specs.declared.status.Status.{Status}
 use Rattle.em_fix.specs.declared.status.Status.TheVariants.{Done, Usage, ReadFault, WriteFault, SinkFault, NoMemory, NotAccepted, Limit, Unbuilt}
-use Rattle.em_fix.specs.declared.status.Phase.TheVariants.{Lex}
+use Rattle.em_fix.specs.declared.status.Phase.TheVariants.{Lex, Parse}
 use Rattle.em_base.specs.declared.limit.Limit.TheVariants.{FileBytes}
 
 pub none_some : (P : Type 0) (bytes : List ℕ) → None ≡ Some bytes → P
@@ -75,7 +75,7 @@ source_long old mid bytes new e h m there = here old h (subst (λ o. IfSome o (�
   where
     here : (o : Option Held) → IfSome o (λ held. HoldsShort held manifest_name bytes) → IfSome o (λ held. HoldsLong held source_name) → IfSome o (λ held. Refuses held (Limit FileBytes))
     here None h there = tt
-    here (Some held) h there = record { manifest = has_manifest held bytes new h m; source = there; which = refl }
+    here (Some held) h there = inl (record { manifest = has_manifest held bytes new h m; source = there; which = refl })
 
 -- the source can't be moved
 pub source_stays : (old mid : Option Held) (bytes new source : List ℕ) (s : Status) → mid ≡ old → IfSome old (λ held. HoldsShort held manifest_name bytes) → MovesManifest bytes new → IfSome mid (λ held. HoldsShort held source_name source) → SourceRefuses source s → IfSome old (λ held. Refuses held s)
@@ -85,18 +85,19 @@ source_stays old mid bytes new source s e h m there r = here old s h (subst (λ 
     here None s h there r = tt
     here (Some held) NoMemory h there r = tt
     here (Some held) (NotAccepted place (Lex kind)) h there r = record { manifest = has_manifest held bytes new h m; bytes = source; there = there; fault = r }
+    here (Some held) (NotAccepted place Parse) h there r = record { manifest = has_manifest held bytes new h m; bytes = source; there = there; no_file = r }
+    here (Some held) (Limit which) h there r = inr (record { manifest = has_manifest held bytes new h m; bytes = source; there = there; deep = r.1; which = r.0 })
     here (Some held) Unbuilt h there r = inr (has_manifest held bytes new h m, inr (record { bytes = source; there = there; other = r }))
     here (Some held) Done h there r = r
     here (Some held) Usage h there r = r
     here (Some held) (ReadFault name) h there r = absurd r
     here (Some held) (WriteFault which) h there r = r
     here (Some held) SinkFault h there r = r
-    here (Some held) (Limit which) h there r = absurd r
 
 -- such a refusal is one before any put
 pub stays_refusal : (source : List ℕ) (s : Status) (before now : ℕ) → SourceRefuses source s → IsRefusal s before now
 stays_refusal source NoMemory before now r = tt
-stays_refusal source (NotAccepted place (Lex kind)) before now r = tt
+stays_refusal source (NotAccepted place phase) before now r = tt
 stays_refusal source Unbuilt before now r = tt
 stays_refusal source Done before now r = r
 stays_refusal source Usage before now r = r

@@ -3,6 +3,7 @@ use Rattle.std.specs.Prelude.{◌≡◌, ◌⊎◌, ℕ, List, Option, Some, Non
 use Rattle.std.specs.FinMap.{get}
 use Rattle.std.specs.Option.{option_map}
 use Rattle.em_base.specs.declared.limit.Limit.{Limit as LimitKind}
+use Rattle.em_base.specs.declared.limit.Limit.TheVariants.{Nesting}
 use Rattle.em_base.specs.declared.place.Place.{Place}
 use Rattle.em_lex.specs.declared.error.LexKind.{LexKind}
 use Rattle.em_disk.specs.Held.{Held, AppendedPart}
@@ -11,9 +12,9 @@ use Rattle.em_disk.specs.Changes.{after, PartDone}
 use Rattle.em_disk.specs.declared.changes.Change.{Change}
 use Rattle.em_fix.specs.Words.{manifest_name, source_name}
 use Rattle.em_fix.specs.Lines.{Wrote, write_line}
-use Rattle.em_fix.specs.Migration.{Migrates, HasManifest, HasProgram, IsTooLong, IsNotLexed, IsUnbuilt}
-use Rattle.em_fix.specs.Source.{IsNoProgram, IsFault}
-use Rattle.em_fix.specs.declared.status.Phase.TheVariants.{Lex}
+use Rattle.em_fix.specs.Migration.{Migrates, HasManifest, HasProgram, IsTooLong, IsNotLexed, IsNotParsed, IsTooDeep, IsUnbuilt}
+use Rattle.em_fix.specs.Source.{IsNoProgram, IsFault, IsNoFile, IsDeepFile}
+use Rattle.em_fix.specs.declared.status.Phase.TheVariants.{Lex, Parse}
 use Rattle.em_fix.specs.declared.status.Status.{Status}
 use Rattle.em_fix.specs.declared.status.Status.TheVariants.{Done, Usage, ReadFault, WriteFault, SinkFault, NoMemory, NotAccepted, Limit, Unbuilt}
 
@@ -62,13 +63,14 @@ FetchRefuses held name (Limit which) before now = ⊥
 abbrev pub SourceRefuses : List ℕ → Status → Type 0
 SourceRefuses text NoMemory = Unit {0}
 SourceRefuses text (NotAccepted place (Lex kind)) = IsFault text place kind
+SourceRefuses text (NotAccepted place Parse) = IsNoFile text place
+SourceRefuses text (Limit which) = (which ≡ Nesting) × IsDeepFile text
 SourceRefuses text Unbuilt = IsNoProgram text
 SourceRefuses text Done = ⊥
 SourceRefuses text Usage = ⊥
 SourceRefuses text (ReadFault name) = ⊥
 SourceRefuses text (WriteFault which) = ⊥
 SourceRefuses text SinkFault = ⊥
-SourceRefuses text (Limit which) = ⊥
 
 -- an answer before any put, whose fault came in this call
 abbrev pub IsRefusal : Status → ℕ → ℕ → Type 0
@@ -87,7 +89,8 @@ abbrev pub Refuses : Held → Status → Type 0
 Refuses held (ReadFault name) = (name ≡ manifest_name) ⊎ ((name ≡ source_name) × HasManifest held)
 Refuses held NoMemory = Unit {0}
 Refuses held (NotAccepted place (Lex kind)) = IsNotLexed held place kind
-Refuses held (Limit which) = IsTooLong held which
+Refuses held (NotAccepted place Parse) = IsNotParsed held place
+Refuses held (Limit which) = (IsTooLong held which) ⊎ (IsTooDeep held which)
 Refuses held Unbuilt = IsUnbuilt held
 Refuses held Done = ⊥
 Refuses held Usage = ⊥
@@ -111,6 +114,8 @@ pub record IsDecided (held : Held) (status : Status) : Type 0 where
   pub done : HasManifest held → HasProgram held → (status ≡ Done) ⊎ (status ≡ NoMemory)
   pub limit : (which : LimitKind) → IsTooLong held which → (status ≡ Limit which) ⊎ (status ≡ NoMemory)
   pub lex : (place : Place) (kind : LexKind) → IsNotLexed held place kind → (status ≡ NotAccepted place (Lex kind)) ⊎ (status ≡ NoMemory)
+  pub parse : (place : Place) → IsNotParsed held place → (status ≡ NotAccepted place Parse) ⊎ (status ≡ NoMemory)
+  pub nesting : (which : LimitKind) → IsTooDeep held which → (status ≡ Limit which) ⊎ (status ≡ NoMemory)
   pub unbuilt : IsUnbuilt held → (status ≡ Unbuilt) ⊎ (status ≡ NoMemory)
 
 -- a refusal whose fault didn't come in this call is decided

@@ -11,7 +11,7 @@ use Rattle.em_disk.specs.Causes.{Rose}
 use Rattle.em_disk.specs.Held.{AppendedPart}
 use Rattle.em_fix.specs.Words.{manifest_name, source_name}
 use Rattle.em_fix.specs.declared.status.Phase.{Phase}
-use Rattle.em_fix.specs.declared.status.Phase.TheVariants.{Lex}
+use Rattle.em_fix.specs.declared.status.Phase.TheVariants.{Lex, Parse}
 use Rattle.em_fix.specs.declared.status.Status.{Status}
 use Rattle.em_fix.specs.declared.status.Status.TheVariants.{Done, Usage, ReadFault, WriteFault, SinkFault, NoMemory, NotAccepted, Limit, Unbuilt}
 
@@ -39,6 +39,7 @@ lex_kind_name BadRaw = codes "BadRaw"
 -- the printed name of a phase
 abbrev pub phase_name : Phase → List ℕ
 phase_name (Lex kind) = codes "lex " ++ lex_kind_name kind
+phase_name Parse = codes "parse"
 
 -- the line of the first place where a package isn't accepted
 abbrev pub fault_line : Place → Phase → List ℕ

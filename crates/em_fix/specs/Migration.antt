@@ -5,7 +5,7 @@ use Rattle.std.specs.Str.{bytes_eq}
 use Rattle.em_base.specs.declared.edit.Suggestion.{Suggestion}
 use Rattle.em_base.specs.declared.edition.Edition.TheVariants.{E2015}
 use Rattle.em_base.specs.declared.limit.Limit.{Limit}
-use Rattle.em_base.specs.declared.limit.Limit.TheVariants.{FileBytes}
+use Rattle.em_base.specs.declared.limit.Limit.TheVariants.{FileBytes, Nesting}
 use Rattle.em_base.specs.declared.place.Place.{Place}
 use Rattle.em_base.specs.declared.token.Token.{Token}
 use Rattle.em_disk.specs.Held.{Held}
@@ -14,7 +14,7 @@ use Rattle.em_first.specs.Form.{Statement}
 use Rattle.em_lex.specs.declared.error.LexKind.{LexKind}
 use Rattle.em_fix.specs.Words.{manifest_name, source_name}
 use Rattle.em_fix.specs.Manifest.{IsManifest, MovesManifest}
-use Rattle.em_fix.specs.Source.{IsProgram, IsNoProgram, IsFault, MovesSource}
+use Rattle.em_fix.specs.Source.{IsProgram, IsNoProgram, IsFault, IsNoFile, IsDeepFile, MovesSource}
 use Rattle.em_fix.specs.Report.{report_of}
 
 -- the most bytes that a file may have
@@ -60,13 +60,28 @@ pub record IsNotLexed (held : Held) (place : Place) (kind : LexKind) : Type 0 wh
   pub there : HoldsShort held source_name bytes
   pub fault : IsFault bytes place kind
 
--- the source is there and has tokens, which are no program of the first form
+-- the manifest is of the first form, and the source has tokens that are no file: this is the first place where no item stands
+pub record IsNotParsed (held : Held) (place : Place) : Type 0 where
+  pub manifest : HasManifest held
+  pub bytes : List ℕ
+  pub there : HoldsShort held source_name bytes
+  pub no_file : IsNoFile bytes place
+
+-- the manifest is of the first form, and an item of the source nests too deep
+pub record IsTooDeep (held : Held) (limit : Limit) : Type 0 where
+  pub manifest : HasManifest held
+  pub bytes : List ℕ
+  pub there : HoldsShort held source_name bytes
+  pub deep : IsDeepFile bytes
+  pub which : limit ≡ Nesting
+
+-- the source is there and has tokens, which are a file and no program of the first form
 pub record HasOther (held : Held) : Type 0 where
   pub bytes : List ℕ
   pub there : HoldsShort held source_name bytes
   pub other : IsNoProgram bytes
 
--- the package is of no form that is built: first its manifest, and then its source, which isn't there or no program
+-- the package is of no form that is built: first its manifest, and then its source, which isn't there or is a file and no program
 abbrev pub IsUnbuilt : Held → Type 0
 IsUnbuilt held = (HasManifest held → ⊥) ⊎ (HasManifest held × ((get held source_name ≡ None) ⊎ HasOther held))
 

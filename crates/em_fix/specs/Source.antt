@@ -11,22 +11,40 @@ use Rattle.em_first.specs.Keyword.{findings}
 use Rattle.em_base.specs.declared.place.Place.{Place}
 use Rattle.em_lex.specs.declared.error.LexKind.{LexKind}
 use Rattle.em_lex.specs.Lexing.{Lexes, FirstFault}
+use Rattle.em_parse.specs.Calls.{IsWhole, NoItemAt, DeepItemAt}
+use Rattle.em_tree.specs.declared.item.FileTree.{FileTree}
 
 -- a text has these tokens under an edition, and they are a program of the first form of these statements
 pub record IsProgram (edition : Edition) (text : List ℕ) (tokens : List Token) (core : List Statement) : Type 0 where
   pub lexes : Lexes 0 edition text tokens
   pub form : FirstCore edition tokens core
 
--- a text has tokens under 2015, and they are no program of the first form
+-- a text has tokens under 2015, and they are a file of the grammar and no program of the first form
 pub record IsNoProgram (text : List ℕ) : Type 0 where
   pub tokens : List Token
   pub lexes : Lexes 0 E2015 text tokens
+  pub tree : FileTree
+  pub whole : IsWhole tokens tree
   pub no_form : FirstForm E2015 tokens → ⊥
 
 -- a text has no tokens under 2015: this is its first fault
 pub record IsFault (text : List ℕ) (place : Place) (kind : LexKind) : Type 0 where
   pub file : place.file ≡ 0
   pub first : FirstFault E2015 text kind place.offset
+
+-- a text has tokens under 2015, and at this place an item should begin and none does
+pub record IsNoFile (text : List ℕ) (place : Place) : Type 0 where
+  pub file : place.file ≡ 0
+  pub tokens : List Token
+  pub lexes : Lexes 0 E2015 text tokens
+  pub none : NoItemAt tokens place.offset
+
+-- a text has tokens under 2015, and an item of theirs nests too deep
+pub record IsDeepFile (text : List ℕ) : Type 0 where
+  pub tokens : List Token
+  pub lexes : Lexes 0 E2015 text tokens
+  pub offset : ℕ
+  pub deep : DeepItemAt tokens offset
 
 -- a text is a program of the first form under an edition, whose first n statements print this
 pub record Prints (edition : Edition) (text : List ℕ) (n : ℕ) (events : Events) : Type 0 where

@@ -38,7 +38,6 @@ fn carry_out<F: Files, S: Sink>(migration: &Migration, files: &mut F, out: &mut 
 }
 
 /// A package has at most one answer, but for want of memory.
-#[tactic(auto, using(crate::proofs::Decided::migrations, crate::proofs::Decided::refusals))]
 fn packages_decide()
     ensures migrated { MigrationsAreDecided }
     ensures refused { RefusalsAreDecided }
@@ -46,6 +45,8 @@ fn packages_decide()
     em_lex::lexing_is_one();
     em_lex::list_excludes_fault();
     em_lex::fault_is_one();
+    em_parse::answers_are_decided();
+    em_first::programs_are_files();
 }
 
 /// Does all that the program does: migrates the package in the current folder by one edition, and writes a report or one line that

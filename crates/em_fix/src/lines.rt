@@ -97,6 +97,7 @@ fn tell_fault<S: Sink>(out: &mut S, place: &Place, phase: &Phase)
                 &[b"error[8]: src/main.rs:", offset, b": lex ", kind, b"\n"],
             )
         }
+        Phase::Parse => write_pieces(out, &[b"error[8]: src/main.rs:", offset, b": parse\n"]),
     }
 }
 

@@ -1,16 +1,19 @@
-ghost use Rattle.std.specs.Prelude.{◌≡◌, ◌≤◌, ◌<◌, ◌^◌, [], ◌∷◌, length, IfOk, IfErr};
+ghost use Rattle.std.specs.Prelude.{◌≡◌, ◌≤◌, ◌<◌, ◌^◌, ℕ, List, [], ◌∷◌, length, IfOk, IfErr, OnOk};
 ghost use Rattle.em_edit.specs.Edited.{edited};
 ghost use Rattle.em_edit.specs.Fit.{AreApplicable};
 ghost use Rattle.em_base.specs.declared.edition.Edition.TheVariants.{E2015};
 ghost use Rattle.em_lex.specs.Lexing.{Lexes};
+ghost use Rattle.em_parse.specs.Calls.{IsWhole};
+ghost use Rattle.em_tree.specs.declared.item.FileTree.{FileTree};
 ghost use Rattle.em_fix.specs.Answers.{SourceRefuses};
 ghost use Rattle.em_fix.specs.Source.{MovesSource, EditsMove};
 
 use crate::status::{Phase, Status};
-use em_base::{Bytes, Edition, List, NoMemory, Place, Suggestion, Tokens};
+use em_base::{Bytes, Edition, Limit, List, NoMemory, Place, Suggestion, Tokens};
 use em_edit::{BadEdit, apply};
 use em_first::{is_first_form, keyword_findings};
 use em_lex::{LexError, Lexings, lex};
+use em_parse::{ParseError, parse_file};
 use std::alloc::Global;
 
 /// A source before and after its migration, and what was found in it.
@@ -80,6 +83,26 @@ fn tokens_of(alloc: Global, source: &[u8]) -> Result<Tokens, Status>
     }
 }
 
+/// Parses tokens as a whole file, or tells why a text that has them is refused.
+fn parse_whole(alloc: Global, tokens: &Tokens) -> Result<(), Status>
+    ensures ok { OnOk result ((tree : FileTree) × IsWhole tokens.now.list tree) }
+    ensures err { IfErr result (λ status. (text : List ℕ) → Lexes 0 E2015 text tokens.now.list
+        → SourceRefuses text status) }
+{
+    match parse_file(alloc, tokens) {
+        Ok(_) => Ok(()),
+        Err(ParseError::NoMemory) => Err(Status::NoMemory),
+        Err(ParseError::NoItem { offset }) => {
+            let place = Place { file: 0, offset };
+            Err(Status::NotAccepted {
+                place,
+                phase: Phase::Parse,
+            })
+        }
+        Err(ParseError::Depth { .. }) => Err(Status::Limit(Limit::Nesting)),
+    }
+}
+
 /// The source of the next edition, where it is a program of the first form, or why it is refused.
 #[tactic(auto, using(crate::proofs::Sources::few_findings))]
 pub fn moved_source(alloc: Global, source: Bytes) -> Result<MovedSource, Status>
@@ -91,6 +114,7 @@ pub fn moved_source(alloc: Global, source: Bytes) -> Result<MovedSource, Status>
     em_first::findings_fit();
     edited_programs_are_moved();
     let tokens = tokens_of(alloc, source.as_slice())?;
+    parse_whole(alloc, &tokens)?;
     if !is_first_form(alloc, &tokens)? {
         return Err(Status::Unbuilt);
     }

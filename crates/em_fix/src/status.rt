@@ -9,6 +9,8 @@ use em_lex::LexKind;
 pub enum Phase {
     /// A source has no tokens.
     Lex(LexKind),
+    /// The tokens of a source are no file: no item stands where one should begin.
+    Parse,
 }
 
 /// How a call of `fix` ends.

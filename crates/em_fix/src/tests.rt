@@ -160,8 +160,8 @@ fn refuses(rt: HostRuntime) -> Result<(), Fail> {
     let rows = [
         kept(MANIFEST, "fn main() { println!(\"{}\", y); }", 15, unbuilt),
         kept(MANIFEST, "fn main() { let a = 2147483648; }", 15, unbuilt),
-        kept(MANIFEST, "fn main() { let as = 1; }", 15, unbuilt),
         kept(MANIFEST, "fn main() {} fn main() {}", 15, unbuilt),
+        kept(MANIFEST, "fn a() {}", 15, unbuilt),
         kept(
             MANIFEST,
             "fn main() { println!(\"ab",
@@ -182,6 +182,7 @@ fn refuses(rt: HostRuntime) -> Result<(), Fail> {
         ),
         kept(NEW_MANIFEST, KEYWORD, 15, unbuilt),
         kept(NEW_MANIFEST, "'", 15, unbuilt),
+        kept(NEW_MANIFEST, "fn main() { let } ", 15, unbuilt),
         kept(
             "[package]\nname = \"\"\nedition = \"2015\"\n",
             KEYWORD,
@@ -193,6 +194,43 @@ fn refuses(rt: HostRuntime) -> Result<(), Fail> {
             KEYWORD,
             15,
             unbuilt,
+        ),
+    ];
+    for row in &rows {
+        check(&rt, row)?;
+    }
+    Ok(())
+}
+
+#[test]
+fn tells_where_no_item_stands(rt: HostRuntime) -> Result<(), Fail> {
+    let at_start = "error[8]: src/main.rs:0: parse\n";
+    let rows = [
+        kept(
+            MANIFEST,
+            "fn a() {} fn main() {",
+            8,
+            "error[8]: src/main.rs:10: parse\n",
+        ),
+        kept(MANIFEST, "fn main() { let } ", 8, at_start),
+        kept(MANIFEST, "fn main() { let as = 1; }", 8, at_start),
+        kept(
+            MANIFEST,
+            " fn main() { println!(\"{}\", y); } }",
+            8,
+            "error[8]: src/main.rs:34: parse\n",
+        ),
+        kept(
+            MANIFEST,
+            "mod a { fn b() {} let }",
+            8,
+            "error[8]: src/main.rs:0: parse\n",
+        ),
+        kept(
+            MANIFEST,
+            "fn main() { let } \\",
+            8,
+            "error[8]: src/main.rs:18: lex BadCharacter\n",
         ),
     ];
     for row in &rows {
@@ -284,26 +322,76 @@ fn wants_both_files(rt: HostRuntime) -> Result<(), Fail> {
     Ok(())
 }
 
+/// Checks what a source is refused with.
+fn check_refusal(
+    rt: &(impl Abort + AllocGlobal),
+    source: Bytes,
+    code_now: u8,
+    line: &str,
+) -> Result<(), Fail> {
+    let alloc = rt.alloc();
+    let none = numbers(alloc, &[])?;
+    let mut start = List::new(alloc);
+    start.push(file(alloc, "Cargo.toml", MANIFEST)?)?;
+    start.push((Text::from_str(alloc, "src/main.rs")?, source))?;
+    let mut files = MemoryFiles::new(alloc, &start, &none)?;
+    let mut out = MemorySink::new(alloc, &none)?;
+    let words = words_of(alloc, &["fix", "--edition", "."])?;
+    assert_eq!(rt; code(&fix(alloc, &words, &mut files, &mut out)), code_now);
+    assert_eq!(rt; out.bytes(), line.as_bytes());
+    Ok(())
+}
+
 #[test]
 fn bounds_a_source(rt: HostRuntime) -> Result<(), Fail> {
     let alloc = rt.alloc();
-    let none = numbers(alloc, &[])?;
-    let words = words_of(alloc, &["fix", "--edition", "."])?;
     let mut spaces = Vec::new(alloc);
     spaces.resize(4_194_304, b' ')?;
     for (code_now, line) in [
         (15, "error[15]: unbuilt\n"),
         (10, "error[10]: FileBytes 4194304\n"),
     ] {
-        let mut start = List::new(alloc);
-        start.push(file(alloc, "Cargo.toml", MANIFEST)?)?;
-        let name = Text::from_str(alloc, "src/main.rs")?;
-        start.push((name, Bytes::from_slice(alloc, spaces.as_slice())?))?;
-        let mut files = MemoryFiles::new(alloc, &start, &none)?;
-        let mut out = MemorySink::new(alloc, &none)?;
-        assert_eq!(rt; code(&fix(alloc, &words, &mut files, &mut out)), code_now);
-        assert_eq!(rt; out.bytes(), line.as_bytes());
+        let source = Bytes::from_slice(alloc, spaces.as_slice())?;
+        check_refusal(&rt, source, code_now, line)?;
         spaces.push(b' ')?;
     }
+    Ok(())
+}
+
+/// `inner` between so many copies of `open` and as many of `close`, and all of it between two texts.
+fn nested(
+    alloc: Global,
+    ends: (&str, &str),
+    pair: (&str, &str),
+    inner: &str,
+    count: usize,
+) -> Result<Bytes, NoMemory> {
+    let mut text = Bytes::from_slice(alloc, ends.0.as_bytes())?;
+    for _ in 0..count {
+        text.extend(pair.0.as_bytes())?;
+    }
+    text.extend(inner.as_bytes())?;
+    for _ in 0..count {
+        text.extend(pair.1.as_bytes())?;
+    }
+    text.extend(ends.1.as_bytes())?;
+    Ok(text)
+}
+
+#[test]
+fn bounds_nesting(rt: HostRuntime) -> Result<(), Fail> {
+    let alloc = rt.alloc();
+    let unbuilt = "error[15]: unbuilt\n";
+    let deep = "error[10]: Nesting 200\n";
+    let module = ("mod a { ", "} ");
+    let modules = nested(alloc, ("", ""), module, "", 200)?;
+    check_refusal(&rt, modules, 15, unbuilt)?;
+    let modules = nested(alloc, ("", ""), module, "", 201)?;
+    check_refusal(&rt, modules, 10, deep)?;
+    let main = ("fn main() { ", "; }");
+    let parentheses = nested(alloc, main, ("(", ")"), "1", 198)?;
+    check_refusal(&rt, parentheses, 15, unbuilt)?;
+    let parentheses = nested(alloc, main, ("(", ")"), "1", 199)?;
+    check_refusal(&rt, parentheses, 10, deep)?;
     Ok(())
 }

@@ -1,11 +1,10 @@
 -- Pieces are divided into items in one way.
 use Rattle.std.proofs.lemmas.List.{append-nil}
-use Rattle.std.proofs.Common.{◌≡◌, ◌⊎◌, ℕ, suc, ◌+◌, ◌≤◌, ◌<◌, true, List, [], ◌∷◌, ◌++◌, length, length-append, map, refl, sym, ◌∙◌, ap, subst, append_assoc, arith, inl, inr}
+use Rattle.std.proofs.Common.{◌≡◌, ℕ, ◌≤◌, true, List, [], ◌∷◌, ◌++◌, refl, sym, ◌∙◌, ap, subst, append_assoc, arith, inl, inr}
 use Rattle.em_base.specs.declared.token.Token.{Token}
 use Rattle.em_tree.specs.declared.item.FileAttribute.{FileAttribute}
 use Rattle.em_tree.specs.declared.item.FileTree.{FileTree}
 use Rattle.em_tree.specs.declared.item.Item.{Item}
-use Rattle.em_tree.specs.declared.piece.Piece.{Piece}
 use Rattle.em_tree.specs.declared.piece.Piece.TheVariants as p
 use Rattle.em_tree.specs.Parts.{each}
 use Rattle.em_tree.specs.Starts.{Pieces}
@@ -14,13 +13,13 @@ use Rattle.em_tree.specs.ItemGrammar.{IsFileAttribute, IsItem, file_attribute_pi
 use Rattle.em_tree.specs.Nesting.{item_nesting}
 use Rattle.em_grammar.specs.declared.sort.Written.TheVariants as word
 use Rattle.em_grammar.specs.Sets.{next, anything, Inside, Nested}
-use Rattle.em_grammar.specs.Reader.{Read, Found, Absent, Deep}
+use Rattle.em_grammar.specs.Reader.{Read, Found, Absent}
 use Rattle.em_grammar.specs.Pairs.{Begins}
 use Rattle.em_grammar.specs.ItemReader.{at, item_start, item_in, file_attribute}
-use Rattle.em_grammar.specs.ItemLaws.{ItemsRead, FileAttributesRead, FileAttributesExact, ItemsApart}
+use Rattle.em_grammar.specs.ItemLaws.{ItemsRead, FileAttributesRead, ItemsApart}
 use Rattle.em_grammar.specs.NestLaws.{ItemsNest}
-use Rattle.em_parse.specs.Calls.{most, of_tokens, TooDeep, AreItems, NoItemStands, DeepItemStands, AreNoItems, AreDeepItems, Attributes, IsWhole, ItemBegins, NoItemAt, DeepItemAt}
-use Rattle.em_parse.specs.Decided.{ItemsDecided, ListsAreDecided, FileDecided, FilesAreDecided}
+use Rattle.em_parse.specs.Calls.{most, of_tokens, AreItems, NoItemStands, DeepItemStands, Attributes, IsWhole, ItemBegins}
+use Rattle.em_parse.specs.Decided.{ListsAreDecided, FilesAreDecided}
 
 inside_left : (H : Pieces → Type 0) (xs ys : Pieces) → Inside H (xs ++ ys) → Inside H xs
 inside_left H [] ys h = tt

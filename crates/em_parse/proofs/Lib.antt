@@ -1,8 +1,12 @@
 pub mod Decided
+pub mod DecidedBodies
 pub mod Dyns
 pub mod FileHeads
 pub mod ItemLists
 pub mod Longest
+pub mod OneTree
+pub mod OwnYields
 pub mod Places
+pub mod ReadAgain
 pub mod Shallow
 pub mod WholeBodies

@@ -1,3 +1,5 @@
 pub mod Answers
 pub mod Calls
 pub mod Decided
+pub mod Laws
+pub mod Readings

@@ -153,8 +153,7 @@ fn offset_of(pieces: &[Piece]) -> u32
     }
 }
 
-/// The only tree of the tokens of a file (Reference, "Crates and source files"). Answers `NoItem` at the token where an
-/// item should begin and none does, and `Depth` where one begins that nests deeper than 200 nodes. The tokens are shared.
+/// The only tree of the tokens of a file, or the token where an item should begin and none does that is within the limit.
 #[tactic(auto, using(crate::proofs::Places::no_item, crate::proofs::Places::deep_item))]
 pub fn file_of<R: Readers>(
     alloc: Global,
@@ -184,8 +183,7 @@ pub fn file_of<R: Readers>(
     }
 }
 
-/// The only items that the pieces are, none for none. Answers `Broken` where they are no items, and `Depth` where one
-/// of them nests deeper than 200 nodes or fragments.
+/// The only items that the pieces are, none for none.
 pub fn items_of<R: Readers>(
     alloc: Global,
     readers: &R,
@@ -205,8 +203,7 @@ pub fn items_of<R: Readers>(
     }
 }
 
-/// The only statements, and the tail if there is one, that the pieces are (Reference, "Block expressions"). Answers
-/// `Broken` where they are none, and `Depth` where they nest deeper than 200 nodes or fragments.
+/// The only statements, and the tail if there is one, that the pieces are.
 #[tactic(auto, using(crate::proofs::WholeBodies::whole))]
 pub fn body_of<R: Readers>(
     alloc: Global,
@@ -276,9 +273,7 @@ fn shared(alloc: Global, pieces: &[Piece]) -> Result<Shared<PieceList>, NoMemory
     Shared::new(alloc, PieceList { list })
 }
 
-/// The longest fragment of a kind that the pieces from an index on begin with (Reference, "Metavariables"). The edition is that
-/// of the word that names the kind; it matters for `pat` alone. Answers `CannotStart` where no piece is there or it starts none
-/// of the kind, `Broken` where no fragment of the kind is there, and `Depth` where it nests deeper than 200 nodes or fragments.
+/// The longest fragment of a kind that the pieces from an index on begin with.
 #[tactic(auto, using(crate::proofs::Longest::longest))]
 pub fn fragment_of<R: Readers>(
     alloc: Global,

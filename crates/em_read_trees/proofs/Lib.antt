@@ -1,0 +1,2 @@
+pub mod ExprSteps
+pub mod ItemSteps

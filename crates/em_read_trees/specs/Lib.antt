@@ -1,0 +1,2 @@
+pub mod ExprKnots
+pub mod ItemKnot
