@@ -1,6 +1,7 @@
 //! Expressions that branch or repeat (Reference, "`if` expressions", "`match` expressions", "Loops and other breakable expressions").
 
 ghost use Rattle.std.specs.Prelude.{◌≡◌, true, false};
+ghost use Rattle.em_tree.specs.ExprShape.{is_bare_block};
 ghost use Rattle.em_grammar.specs.declared.sort.Written.TheVariants as word;
 ghost use Rattle.em_grammar.specs.Sets.{is_sign};
 ghost use Rattle.em_grammar.specs.Reader as read;
@@ -386,13 +387,20 @@ fn range_end_if<I: Inside>(
     }
 }
 
-/// Whether a block may follow the range, or the expression that is none.
+/// Whether it is a block alone.
+fn is_bare_block(tree: &Expr) -> bool
+    ensures { result ≡ is_bare_block tree.now }
+{
+    matches!(tree, Expr::Block(_))
+}
+
+/// Whether a block may follow the range, whose end is none, or the expression that is no range.
 fn is_range_closed(start: &Expr, end: &Option<(Shared<Token>, Boxed<Expr>)>) -> bool
     ensures { result ≡ spec.range_closed (start.now, end.now) }
 {
     match end {
         None => is_closed(start),
-        Some((_, end)) => is_closed(end.get()),
+        Some((_, end)) => is_closed(end.get()) && !is_bare_block(end.get()),
     }
 }
 
