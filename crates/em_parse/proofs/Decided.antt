@@ -20,6 +20,7 @@ use Rattle.em_grammar.specs.ItemLaws.{ItemsRead, FileAttributesRead, ItemsApart}
 use Rattle.em_grammar.specs.NestLaws.{ItemsNest}
 use Rattle.em_parse.specs.Calls.{most, of_tokens, AreItems, NoItemStands, DeepItemStands, Attributes, IsWhole, ItemBegins}
 use Rattle.em_parse.specs.Decided.{ListsAreDecided, FilesAreDecided}
+use Rattle.em_parse.proofs.Limit.{same_head}
 
 inside_left : (H : Pieces → Type 0) (xs ys : Pieces) → Inside H (xs ++ ys) → Inside H xs
 inside_left H [] ys h = tt
@@ -42,9 +43,6 @@ Ends {A} M z r = (x : A) (s : Pieces) → M x → r ≡ z x ++ s → ⊥
 -- what reads each member at the front of pieces
 abbrev Finds : {A : Type 0} → (A → Type 0) → (A → Pieces) → (Pieces → Read A) → Type 0
 Finds {A} M z R = (x : A) (r : Pieces) → M x → Inside (Nested most) (z x ++ r) → R (z x ++ r) ≡ Found x r
-
-same_head : {A : Type 0} (x y : A) (r s : Pieces) → Found x r ≡ Found y s → x ≡ y
-same_head x y r s is = cc
 
 same_rest : {A : Type 0} (x y : A) (r s : Pieces) → Found x r ≡ Found y s → r ≡ s
 same_rest x y r s is = cc

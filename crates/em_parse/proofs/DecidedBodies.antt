@@ -1,6 +1,6 @@
 -- Bodies and fragments are read in one way.
 use Rattle.std.proofs.lemmas.List.{append-nil}
-use Rattle.std.proofs.Common.{◌≡◌, inl, inr, ℕ, ◌≤◌, true, false, if◌then◌else◌, [], ◌∷◌, ◌++◌, length, length-append, drop, refl, sym, ◌∙◌, ap, subst, arith}
+use Rattle.std.proofs.Common.{◌≡◌, ℕ, ◌≤◌, true, false, if◌then◌else◌, [], ◌∷◌, ◌++◌, length, length-append, drop, refl, sym, ◌∙◌, ap, subst, arith}
 use Rattle.em_base.specs.declared.edition.Edition.{Edition}
 use Rattle.em_tree.specs.declared.fragment.Fragment.{Fragment}
 use Rattle.em_tree.specs.declared.fragment.FragmentNode.{FragmentNode}
@@ -12,38 +12,38 @@ use Rattle.em_tree.specs.declared.piece.Group.{Group}
 use Rattle.em_tree.specs.declared.piece.PieceList.{PieceList, roll-PieceList, roll-out-PieceList}
 use Rattle.em_tree.specs.Starts.{Pieces, starts}
 use Rattle.em_tree.specs.FragmentGrammar.{Reads, kind_of_node}
+use Rattle.em_tree.specs.declared.expr.Body.{Body}
+use Rattle.em_tree.specs.ExprGrammar.{BodyWithin, body_pieces}
 use Rattle.em_tree.specs.Nesting.{body_nesting}
 use Rattle.em_grammar.specs.Sets.{Inside, Nested}
-use Rattle.em_grammar.specs.Reader.{Read, Found, Absent}
+use Rattle.em_grammar.specs.Reader.{Found, Absent}
 use Rattle.em_grammar.specs.ExprKnot.{body_in}
 use Rattle.em_grammar.specs.ExprLaws.{BodiesRead, OneBody}
 use Rattle.em_grammar.specs.FragmentReader.{by_kind, fragment_in}
 use Rattle.em_grammar.specs.FragmentLaws.{readers, prefix_in}
 use Rattle.em_grammar.specs.Laws.{GroupsNest}
 use Rattle.em_grammar.specs.NestLaws.{BodiesNest, FragmentsNest, node_nesting}
-use Rattle.em_parse.specs.Calls.{most, TooDeep, IsLongest, IsDeepFragment}
+use Rattle.em_parse.specs.Calls.{most, IsLongest, IsDeepBody, IsDeepFragment}
 use Rattle.em_parse.specs.Decided.{BodiesAreDecided, FragmentsAreDecided}
-use Rattle.em_parse.specs.Readings.{Readings}
-use Rattle.em_parse.proofs.OwnYields.{prefix_own, one_fragment, same_head}
-
--- what is found within the limit isn't too deep
-pub not_too_deep : {T : Type 0} (nesting : T → ℕ) (out : Read T) (x : T) (r : Pieces) → out ≡ Found x r → nesting x ≤ most → TooDeep nesting out → ⊥
-not_too_deep nesting out x r is fits (inl deep) = cc
-not_too_deep nesting out x r is fits (inr h) =
-    let same : h.0 ≡ x = same_head h.0 x h.1 r (sym h.2 ∙ is) in
-    absurd (omega (arith, fits, h.3, ap (λ k. nesting k) same))
+use Rattle.em_parse.specs.Parts.{Readings}
+use Rattle.em_parse.proofs.Limit.{not_too_deep, absent_not_deep}
+use Rattle.em_parse.proofs.OwnYields.{prefix_own, one_fragment}
 
 -- ---- bodies
 
-pub bodies_decided : BodiesRead → OneBody → BodiesNest → BodiesAreDecided
-bodies_decided read one nest i w = record {
-  one = λ x y m is q same. one most most x y m q (sym is ∙ same);
-  not_broken = λ x m is h. h.none most x m is;
-  not_deep = λ x m is h.
-      let found : body_in most most i ≡ Found x [] = ap (λ k. body_in most most k) is ∙ read most most most x (omega arith) (subst (λ k. Inside (Nested most) k) is w) m in
-      not_too_deep body_nesting (body_in most most i) x [] found ((nest most most x m).0 m) h;
-  either = λ h k. h.shallow k;
+pub bodies_decided : OneBody → BodiesAreDecided
+bodies_decided one i = record {
+  one = λ x y h k. one most most x y h.within k.within (sym h.yields ∙ k.yields);
+  not_broken = λ x h k. k.none most x h.within h.yields;
+  not_deep = λ x h deep. h.shallow deep;
+  either = λ h deep. h.shallow deep;
 }
+
+-- a body within the limits isn't too deep
+pub body_not_deep : BodiesRead → BodiesNest → (i : Pieces) (x : Body) → Inside (Nested most) i → BodyWithin most x → i ≡ body_pieces x → IsDeepBody i → ⊥
+body_not_deep read nest i x w m is deep =
+    let found : body_in most most i ≡ Found x [] = ap (λ k. body_in most most k) is ∙ read most most most x (omega arith) (subst (λ k. Inside (Nested most) k) is w) m in
+    not_too_deep body_nesting (body_in most most i) x [] found ((nest most most x m).0 m) deep
 
 -- ---- fragments
 
@@ -70,10 +70,6 @@ starts_on kind e (p.Group g ∷ ys) r h = h
 starts_none : (kind : FragmentKind) (e : Edition) (i : Pieces) → starts kind e i ≡ false → prefix_in kind e most most i ≡ Absent
 unfolding fragment_in
 starts_none kind e i is = ap (λ b. if b then by_kind readers kind e most most i else Absent) is
-
-absent_not_deep : (out : Read FragmentNode) → out ≡ Absent → TooDeep node_nesting out → ⊥
-absent_not_deep out is (inl deep) = cc
-absent_not_deep out is (inr h) = let found = h.2 in cc
 
 abbrev layer : Pieces → PieceList-F Piece Group PieceList
 layer ys = record { list = ys }
@@ -120,18 +116,13 @@ module _ (k : Readings) (nest : GroupsNest) (nests : FragmentsNest) (kind : Frag
   pub whole_not_deep : (x : FragmentNode) → kind_of_node x ≡ kind → Reads e most i x → Inside (Nested most) i → IsDeepFragment kind e i → ⊥
   whole_not_deep x is h w deep = not_too_deep node_nesting (prefix_in kind e most most i) x [] (prefix_own k kind e most most most i x (omega arith) is h w) (fits x h) deep
 
-  longest_not_deep : (x : Fragment) → IsLongest kind e i x → x.taken ≡ length i → Inside (Nested most) i → IsDeepFragment kind e i → ⊥
-  longest_not_deep x h all w deep =
-      let same : i ≡ x.pieces.list = all_taken i x.pieces.list (drop x.taken i) h.begins.0 (omega (arith, all, h.taken_is)) in
-      whole_not_deep x.node h.begins.1 (subst (λ ys. Reads e most ys x.node) (sym same) h.begins.2.reads) w deep
-
 pub fragments_decided : Readings → GroupsNest → FragmentsNest → FragmentsAreDecided
-fragments_decided k nest nests kind e i w = record {
+fragments_decided k nest nests kind e i = record {
   one = λ x y h q. one_longest k nest nests kind e i x y h q;
   can_start = λ x h is. let starts' = longest_starts k nest nests kind e i x h in cc;
   not_broken = λ x h q. q.none most x.node x.pieces.list (drop x.taken i) h.begins;
-  not_deep = λ x h all deep. longest_not_deep k nest nests kind e i x h all w deep;
+  not_deep = λ x h deep. h.shallow deep;
   starts_not_broken = λ is q. let starts' = q.starts_one in cc;
-  starts_not_deep = λ is deep. absent_not_deep (prefix_in kind e most most i) (starts_none kind e i is) deep;
+  starts_not_deep = λ is deep. absent_not_deep node_nesting (prefix_in kind e most most i) (starts_none kind e i is) deep;
   either = λ q deep. q.shallow deep;
 }

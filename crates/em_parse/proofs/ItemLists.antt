@@ -7,7 +7,7 @@ use Rattle.em_tree.specs.Starts.{Pieces}
 use Rattle.em_tree.specs.Tokens.{Each}
 use Rattle.em_tree.specs.ItemGrammar.{IsItem, item_pieces}
 use Rattle.em_tree.specs.Nesting.{item_nesting}
-use Rattle.em_grammar.specs.Reader.{Read, Found, Absent, Deep}
+use Rattle.em_grammar.specs.Reader.{Found, Absent}
 use Rattle.em_grammar.specs.Pairs.{Begins}
 use Rattle.em_grammar.specs.ItemReader.{item_start, item_in}
 use Rattle.em_grammar.specs.ItemLaws.{ItemsRead, ItemsExact}
@@ -16,8 +16,9 @@ use Rattle.std.specs.Prelude.{Result, Err}
 use Rattle.em_read.specs.declared.stop.Stop.{Stop}
 use Rattle.em_read.specs.declared.stop.Stop.TheVariants as stop
 use Rattle.em_read.specs.Parse.{Reads}
-use Rattle.em_parse.specs.Answers.{Stops}
-use Rattle.em_parse.specs.Calls.{most, TooDeep, AreItems, NoItemStands}
+use Rattle.em_parse.specs.Calls.{most, AreItems, NoItemStands}
+use Rattle.em_parse.specs.Parts.{Stops}
+use Rattle.em_parse.proofs.Limit.{absent_not_deep}
 
 pub start : (i : Pieces) → AreItems i [] i
 start i = record { trees = tt; yields = refl }
@@ -51,12 +52,8 @@ shorter read exact r x s is =
     let begins = (read 0 found.0.0).begins found.0.0 x (omega arith) found.0.1 in
     subst (λ k. length s < length k) (sym found.1) (some_piece (item_pieces x) s (λ e. subst (λ k. Begins item_start k) e begins))
 
-shallow : {T : Type 0} {out : Read T} (nesting : T → ℕ) → out ≡ Absent → TooDeep nesting out → ⊥
-shallow nesting is (inl deep) = cc
-shallow nesting is (inr h) = let e = h.2 in cc
-
 pub none_stands : ItemsExact → (i : Pieces) → item_in most most i ≡ Absent → NoItemStands i
-none_stands exact i is = record { none = λ d x rest m e. exact.none most most i is d x rest m e; shallow = shallow item_nesting is }
+none_stands exact i is = record { none = λ d x rest m e. exact.none most most i is d x rest m e; shallow = absent_not_deep item_nesting (item_in most most i) is }
 
 pub stops : ItemsExact → (i : Pieces) (why : Stop) (new : Pieces) → Reads (item_in most most i) (Err why) new → Stops why i
 stops exact i stop.NoMemory new h = tt

@@ -3,6 +3,7 @@ pub mod DecidedBodies
 pub mod Dyns
 pub mod FileHeads
 pub mod ItemLists
+pub mod Limit
 pub mod Longest
 pub mod OneTree
 pub mod OwnYields

@@ -11,6 +11,7 @@ use Rattle.em_grammar.specs.Reader.{Read, Found}
 use Rattle.em_grammar.specs.FragmentLaws.{prefix_in, PrefixesExact}
 use Rattle.em_grammar.specs.NestLaws.{node_nesting, FragmentsNest}
 use Rattle.em_parse.specs.Calls.{most, Begins, IsLongest}
+use Rattle.em_parse.proofs.Limit.{not_too_deep}
 
 take_front : {A : Type 0} (xs ys : List A) → take (length xs) (xs ++ ys) ≡ xs
 take_front [] ys = refl
@@ -45,4 +46,5 @@ longest exact nest kind edition i r x is fits k e t ps =
       longest = λ d y zs rest h.
           let no_less = (exact kind edition).longest most most i x.node r is d y zs rest h.0 h.1 h.2 in
           omega (arith, no_less, size, ap (λ k. length k) h.0, length-append zs rest, ap (λ k. length k) found.2, length-append ys r);
+      shallow = λ deep. not_too_deep node_nesting (prefix_in kind edition most most i) x.node r is fits deep;
     }

@@ -10,7 +10,7 @@ use Rattle.em_grammar.specs.ExprLaws.{OneBody}
 use Rattle.em_grammar.specs.ItemLaws.{FilesRead}
 use Rattle.em_parse.specs.Calls.{most}
 use Rattle.em_parse.specs.Laws.{FilesAreOne, ListsAreOne, BodiesAreOne, FragmentsAreOne}
-use Rattle.em_parse.specs.Readings.{Readings}
+use Rattle.em_parse.specs.Parts.{Readings}
 use Rattle.em_parse.proofs.OwnYields.{one_fragment}
 
 pub files_one : FilesRead → FilesAreOne

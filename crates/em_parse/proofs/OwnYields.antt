@@ -35,7 +35,8 @@ use Rattle.em_grammar.specs.ItemReader.{item_in}
 use Rattle.em_grammar.specs.FragmentReader.{whole_group, token_tree, single, staying, pat_fragment, by_kind, fragment_in}
 use Rattle.em_grammar.specs.FragmentLaws.{readers, prefix_in}
 use Rattle.em_grammar.specs.Laws.{GroupsNest}
-use Rattle.em_parse.specs.Readings.{Readings}
+use Rattle.em_parse.specs.Parts.{Readings}
+use Rattle.em_parse.proofs.Limit.{same_head}
 use Rattle.em_grammar.proofs.RowPairs.{end_last, core_last}
 use Rattle.em_grammar.proofs.FragmentPairs.{single_pieces, single_of}
 
@@ -105,9 +106,6 @@ prefix_own k kind e n depth d i x below is h w =
     ∙ ap (λ kind. by_kind readers kind e n depth i) (sym is)
     ∙ ap (λ ys. by_kind readers (kind_of_node x) e n depth ys) h.yields
     ∙ fragment_own k n depth d below e x h.tree (subst (λ ys. Inside (Nested n) ys) h.yields w)
-
-pub same_head : {A : Type 0} (x y : A) (r s : Pieces) → Found x r ≡ Found y s → x ≡ y
-same_head x y r s is = cc
 
 pub one_fragment : Readings → GroupsNest → (e : Edition) (a b : ℕ) (x y : FragmentNode) → kind_of_node x ≡ kind_of_node y → IsFragment e a x → IsFragment e b y → fragment_pieces x ≡ fragment_pieces y → x ≡ y
 one_fragment k nest e a b x y kinds m q is =

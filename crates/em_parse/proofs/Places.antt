@@ -11,8 +11,8 @@ use Rattle.em_tree.specs.ItemGrammar.{file_attribute_pieces, item_pieces}
 use Rattle.std.specs.Prelude.{Result, Err}
 use Rattle.em_read.specs.declared.stop.Stop.{Stop}
 use Rattle.em_read.specs.declared.stop.Stop.TheVariants as stop
-use Rattle.em_parse.specs.Answers.{Stops, ItemsStop}
 use Rattle.em_parse.specs.Calls.{of_tokens, AreItems, Attributes, NoItemStands, DeepItemStands, ItemBegins, NoItemAt, DeepItemAt}
+use Rattle.em_parse.specs.Parts.{ItemsStop}
 
 tail_of : (x y : Piece) (xs ys : Pieces) → x ∷ xs ≡ y ∷ ys → xs ≡ ys
 tail_of x y xs ys is = cc

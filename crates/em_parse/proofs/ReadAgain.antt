@@ -9,15 +9,16 @@ use Rattle.em_tree.specs.declared.fragment.FragmentNode.{FragmentNode}
 use Rattle.em_tree.specs.declared.piece.FragmentKind.{FragmentKind}
 use Rattle.em_tree.specs.Starts.{Pieces, starts}
 use Rattle.em_tree.specs.FragmentGrammar.{Reads, DynStays, kind_of_node, ends_in_dyn}
+use Rattle.em_grammar.specs.ExprLaws.{BodiesRead, OneBody}
 use Rattle.em_grammar.specs.Laws.{GroupsNest}
-use Rattle.em_grammar.specs.NestLaws.{FragmentsNest}
+use Rattle.em_grammar.specs.NestLaws.{BodiesNest, FragmentsNest}
 use Rattle.em_parse.specs.declared.error.ParseError.TheVariants as parse
 use Rattle.em_parse.specs.Calls.{most, Begins, IsLongest}
-use Rattle.em_parse.specs.Decided.{FilesAreDecided, ListsAreDecided, BodiesAreDecided}
+use Rattle.em_parse.specs.Decided.{FilesAreDecided, ListsAreDecided}
 use Rattle.em_parse.specs.Laws.{FilesAreReadAgain, ListsAreReadAgain, BodiesAreReadAgain, FragmentsAreReadAgain}
-use Rattle.em_parse.specs.Readings.{Readings}
+use Rattle.em_parse.specs.Parts.{Readings}
+use Rattle.em_parse.proofs.DecidedBodies.{all_taken, body_not_deep, whole_not_deep}
 use Rattle.em_parse.proofs.OwnYields.{one_fragment}
-use Rattle.em_parse.proofs.DecidedBodies.{all_taken, whole_not_deep}
 
 pub files_again : FilesAreDecided → FilesAreReadAgain
 files_again decided tokens x (Ok y) h a = inl (ap (λ k. Ok k) ((decided tokens).one y x a.0 h))
@@ -32,12 +33,12 @@ lists_again decided i xs (Err frag.CannotStart) w h a = absurd a.1
 lists_again decided i xs (Err frag.Broken) w h a = absurd ((decided i w).not_broken xs h a.1)
 lists_again decided i xs (Err frag.Depth) w h a = absurd ((decided i w).not_deep xs h a.1)
 
-pub bodies_again : BodiesAreDecided → BodiesAreReadAgain
-bodies_again decided i x (Ok y) w m is a = inl (ap (λ k. Ok k) ((decided i w).one y x a.0.0 a.0.1 m is))
-bodies_again decided i x (Err frag.NoMemory) w m is a = inr refl
-bodies_again decided i x (Err frag.CannotStart) w m is a = absurd a.1
-bodies_again decided i x (Err frag.Broken) w m is a = absurd ((decided i w).not_broken x m is a.1)
-bodies_again decided i x (Err frag.Depth) w m is a = absurd ((decided i w).not_deep x m is a.1)
+pub bodies_again : BodiesRead → OneBody → BodiesNest → BodiesAreReadAgain
+bodies_again read one nest i x (Ok y) w m is a = inl (ap (λ k. Ok k) (one most most y x a.0.within m (sym a.0.yields ∙ is)))
+bodies_again read one nest i x (Err frag.NoMemory) w m is a = inr refl
+bodies_again read one nest i x (Err frag.CannotStart) w m is a = absurd a.1
+bodies_again read one nest i x (Err frag.Broken) w m is a = absurd (a.1.none most x m is)
+bodies_again read one nest i x (Err frag.Depth) w m is a = absurd (body_not_deep read nest i x w m is a.1)
 
 -- ---- fragments
 

@@ -1,28 +1,20 @@
--- Why the calls refuse.
-use Rattle.std.specs.Prelude.{◌≡◌, ◌≤◌, ℕ, true, false, List, []}
+-- What each call answers, and why it refuses.
+use Rattle.std.specs.Prelude.{◌≡◌, false, List, [], Result, IfOk, IfErr}
 use Rattle.em_base.specs.declared.edition.Edition.{Edition}
 use Rattle.em_base.specs.declared.token.Token.{Token}
+use Rattle.em_tree.specs.declared.expr.Body.{Body}
 use Rattle.em_tree.specs.declared.fragment.FragError.{FragError}
 use Rattle.em_tree.specs.declared.fragment.FragError.TheVariants as frag
+use Rattle.em_tree.specs.declared.fragment.Fragment.{Fragment}
+use Rattle.em_tree.specs.declared.item.FileTree.{FileTree}
 use Rattle.em_tree.specs.declared.item.Item.{Item}
 use Rattle.em_tree.specs.declared.piece.FragmentKind.{FragmentKind}
 use Rattle.em_tree.specs.Starts.{Pieces, starts}
 use Rattle.em_parse.specs.declared.error.ParseError.{ParseError}
 use Rattle.em_parse.specs.declared.error.ParseError.TheVariants as parse
-use Rattle.em_read.specs.declared.stop.Stop.{Stop}
-use Rattle.em_read.specs.declared.stop.Stop.TheVariants as stop
-use Rattle.em_parse.specs.Calls.{NoItemStands, DeepItemStands, AreItems, AreNoItems, AreDeepItems, NoItemAt, DeepItemAt, IsDeepBody, IsNoBody, IsBroken, IsDeepFragment}
+use Rattle.em_parse.specs.Calls.{AreItems, AreNoItems, AreDeepItems, IsWhole, NoItemAt, DeepItemAt, IsWholeBody, IsDeepBody, IsNoBody, IsLongest, IsBroken, IsDeepFragment}
 
--- why reading items stops before these pieces
-abbrev pub Stops : Stop → Pieces → Type 0
-Stops stop.NoMemory rest = Unit {0}
-Stops stop.Absent rest = NoItemStands rest
-Stops stop.Deep rest = DeepItemStands rest
-
--- after some items of the pieces
-abbrev pub ItemsStop : Pieces → Stop → Pieces → Type 0
-ItemsStop i stop.NoMemory rest = Unit {0}
-ItemsStop i why rest = (items : List Item) × AreItems i items rest × (rest ≡ [] → ⊥) × Stops why rest
+-- ---- why a call refuses
 
 abbrev pub FileRefuses : List Token → ParseError → Type 0
 FileRefuses tokens parse.NoMemory = Unit {0}
@@ -47,8 +39,16 @@ FragmentRefuses kind edition i frag.CannotStart = starts kind edition i ≡ fals
 FragmentRefuses kind edition i frag.Broken = IsBroken kind edition i
 FragmentRefuses kind edition i frag.Depth = IsDeepFragment kind edition i
 
--- what a reader's stop answers
-abbrev pub refusal_of : Stop → FragError
-refusal_of stop.NoMemory = frag.NoMemory
-refusal_of stop.Absent = frag.Broken
-refusal_of stop.Deep = frag.Depth
+-- ---- what a call answers, by its two clauses
+
+abbrev pub FileAnswer : List Token → Result FileTree ParseError → Type 0
+FileAnswer tokens r = IfOk r (IsWhole tokens) × IfErr r (FileRefuses tokens)
+
+abbrev pub ListAnswer : Pieces → Result (List Item) FragError → Type 0
+ListAnswer i r = IfOk r (λ xs. AreItems i xs []) × IfErr r (ItemsRefuse i)
+
+abbrev pub BodyAnswer : Pieces → Result Body FragError → Type 0
+BodyAnswer i r = IfOk r (IsWholeBody i) × IfErr r (BodyRefuses i)
+
+abbrev pub FragmentAnswer : FragmentKind → Edition → Pieces → Result Fragment FragError → Type 0
+FragmentAnswer kind edition i r = IfOk r (IsLongest kind edition i) × IfErr r (FragmentRefuses kind edition i)

@@ -95,6 +95,12 @@ DeepItemAt tokens offset = ItemBegins tokens offset DeepItemStands
 abbrev pub IsDeepBody : Pieces → Type 0
 IsDeepBody i = TooDeep body_nesting (body_in most most i)
 
+-- they are this body within the limit, and reading one doesn't come too deep
+pub record IsWholeBody (i : Pieces) (x : Body) : Type 0 where
+  pub within : BodyWithin most x
+  pub yields : i ≡ body_pieces x
+  pub shallow : IsDeepBody i → ⊥
+
 -- they are no body, of whatever depth, and reading one doesn't come too deep
 pub record IsNoBody (i : Pieces) : Type 0 where
   pub none : (d : ℕ) (x : Body) → BodyWithin d x → i ≡ body_pieces x → ⊥
@@ -106,16 +112,17 @@ pub record IsNoBody (i : Pieces) : Type 0 where
 abbrev pub Begins : FragmentKind → Edition → ℕ → Pieces → Pieces → Pieces → FragmentNode → Type 0
 Begins kind edition depth i ys rest x = (i ≡ ys ++ rest) × (kind_of_node x ≡ kind) × IsPrefix edition depth ys rest x
 
--- the longest fragment of the kind at the front of the pieces
+abbrev pub IsDeepFragment : FragmentKind → Edition → Pieces → Type 0
+IsDeepFragment kind edition i = TooDeep node_nesting (prefix_in kind edition most most i)
+
+-- the longest fragment of the kind at the front of the pieces, and reading one doesn't come too deep
 pub record IsLongest (kind : FragmentKind) (edition : Edition) (i : Pieces) (x : Fragment) : Type 0 where
   pub kind_is : x.kind ≡ kind
   pub edition_is : x.edition ≡ edition
   pub taken_is : x.taken ≡ length x.pieces.list
   pub begins : Begins kind edition most i x.pieces.list (drop x.taken i) x.node
   pub longest : (d : ℕ) (y : FragmentNode) (ys rest : Pieces) → Begins kind edition d i ys rest y → length ys ≤ x.taken
-
-abbrev pub IsDeepFragment : FragmentKind → Edition → Pieces → Type 0
-IsDeepFragment kind edition i = TooDeep node_nesting (prefix_in kind edition most most i)
+  pub shallow : IsDeepFragment kind edition i → ⊥
 
 -- the first piece starts one of the kind, but none stands there, however deep it nests, and reading one doesn't come too deep
 pub record IsBroken (kind : FragmentKind) (edition : Edition) (i : Pieces) : Type 0 where

@@ -1,5 +1,5 @@
 -- That the answers exclude one another.
-use Rattle.std.specs.Prelude.{◌≡◌, ℕ, false, List, [], length}
+use Rattle.std.specs.Prelude.{◌≡◌, ℕ, false, List, []}
 use Rattle.em_base.specs.declared.edition.Edition.{Edition}
 use Rattle.em_base.specs.declared.token.Token.{Token}
 use Rattle.em_tree.specs.declared.expr.Body.{Body}
@@ -8,9 +8,8 @@ use Rattle.em_tree.specs.declared.item.FileTree.{FileTree}
 use Rattle.em_tree.specs.declared.item.Item.{Item}
 use Rattle.em_tree.specs.declared.piece.FragmentKind.{FragmentKind}
 use Rattle.em_tree.specs.Starts.{Pieces, starts}
-use Rattle.em_tree.specs.ExprGrammar.{BodyWithin, body_pieces}
 use Rattle.em_grammar.specs.Sets.{Inside, Nested}
-use Rattle.em_parse.specs.Calls.{most, AreItems, AreNoItems, AreDeepItems, IsWhole, NoItemAt, DeepItemAt, IsDeepBody, IsNoBody, IsLongest, IsBroken, IsDeepFragment}
+use Rattle.em_parse.specs.Calls.{most, AreItems, AreNoItems, AreDeepItems, IsWhole, NoItemAt, DeepItemAt, IsWholeBody, IsDeepBody, IsNoBody, IsLongest, IsBroken, IsDeepFragment}
 
 -- of pieces in which fragments stand in one another no more often than the limit
 pub record ItemsDecided (i : Pieces) : Type 0 where
@@ -34,25 +33,25 @@ pub record FileDecided (tokens : List Token) : Type 0 where
 abbrev pub FilesAreDecided : Type 0
 FilesAreDecided = (tokens : List Token) → FileDecided tokens
 
--- of pieces in which fragments stand in one another no more often than the limit
+-- of any pieces
 pub record BodyDecided (i : Pieces) : Type 0 where
-  pub one : (x y : Body) → BodyWithin most x → i ≡ body_pieces x → BodyWithin most y → i ≡ body_pieces y → x ≡ y
-  pub not_broken : (x : Body) → BodyWithin most x → i ≡ body_pieces x → IsNoBody i → ⊥
-  pub not_deep : (x : Body) → BodyWithin most x → i ≡ body_pieces x → IsDeepBody i → ⊥
+  pub one : (x y : Body) → IsWholeBody i x → IsWholeBody i y → x ≡ y
+  pub not_broken : (x : Body) → IsWholeBody i x → IsNoBody i → ⊥
+  pub not_deep : (x : Body) → IsWholeBody i x → IsDeepBody i → ⊥
   pub either : IsNoBody i → IsDeepBody i → ⊥
 
 abbrev pub BodiesAreDecided : Type 0
-BodiesAreDecided = (i : Pieces) → Inside (Nested most) i → BodyDecided i
+BodiesAreDecided = (i : Pieces) → BodyDecided i
 
--- of such pieces too. Only what stands behind the longest fragment may be too deep to tell that it doesn't go on
+-- of any pieces
 pub record FragmentDecided (kind : FragmentKind) (edition : Edition) (i : Pieces) : Type 0 where
   pub one : (x y : Fragment) → IsLongest kind edition i x → IsLongest kind edition i y → x ≡ y
   pub can_start : (x : Fragment) → IsLongest kind edition i x → starts kind edition i ≡ false → ⊥
   pub not_broken : (x : Fragment) → IsLongest kind edition i x → IsBroken kind edition i → ⊥
-  pub not_deep : (x : Fragment) → IsLongest kind edition i x → x.taken ≡ length i → IsDeepFragment kind edition i → ⊥
+  pub not_deep : (x : Fragment) → IsLongest kind edition i x → IsDeepFragment kind edition i → ⊥
   pub starts_not_broken : starts kind edition i ≡ false → IsBroken kind edition i → ⊥
   pub starts_not_deep : starts kind edition i ≡ false → IsDeepFragment kind edition i → ⊥
   pub either : IsBroken kind edition i → IsDeepFragment kind edition i → ⊥
 
 abbrev pub FragmentsAreDecided : Type 0
-FragmentsAreDecided = (kind : FragmentKind) (edition : Edition) (i : Pieces) → Inside (Nested most) i → FragmentDecided kind edition i
+FragmentsAreDecided = (kind : FragmentKind) (edition : Edition) (i : Pieces) → FragmentDecided kind edition i

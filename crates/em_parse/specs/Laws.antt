@@ -1,5 +1,5 @@
 -- Laws of the calls: an answer is the only tree of its yield, and a tree is the answer to its own yield.
-use Rattle.std.specs.Prelude.{◌≡◌, ◌⊎◌, ℕ, List, [], Result, Ok, Err, IfOk, IfErr}
+use Rattle.std.specs.Prelude.{◌≡◌, ◌⊎◌, ℕ, List, [], Result, Ok, Err}
 use Rattle.em_base.specs.declared.edition.Edition.{Edition}
 use Rattle.em_base.specs.declared.token.Token.{Token}
 use Rattle.em_tree.specs.declared.expr.Body.{Body}
@@ -19,7 +19,7 @@ use Rattle.em_tree.specs.ItemGrammar.{IsFile, IsItem, file_pieces, item_pieces}
 use Rattle.em_grammar.specs.Sets.{Inside, Nested}
 use Rattle.em_parse.specs.declared.error.ParseError.{ParseError}
 use Rattle.em_parse.specs.declared.error.ParseError.TheVariants as parse
-use Rattle.em_parse.specs.Answers.{FileRefuses, ItemsRefuse, BodyRefuses, FragmentRefuses}
+use Rattle.em_parse.specs.Answers.{FileAnswer, ListAnswer, BodyAnswer, FragmentAnswer}
 use Rattle.em_parse.specs.Calls.{most, of_tokens, AreItems, IsWhole, IsLongest}
 
 -- ---- one tree for a yield
@@ -44,19 +44,6 @@ FragmentsAreOne = (kind : FragmentKind) (edition : Edition) (i : Pieces) (x : Fr
     → OnlyTree (λ d y. (kind_of_node y ≡ kind) × IsFragment edition d y) fragment_pieces x.pieces.list x.node
 
 -- ---- a tree is read from its own yield
-
--- what a call ensures of its answer
-abbrev pub FileAnswer : List Token → Result FileTree ParseError → Type 0
-FileAnswer tokens r = IfOk r (IsWhole tokens) × IfErr r (FileRefuses tokens)
-
-abbrev pub ListAnswer : Pieces → Result (List Item) FragError → Type 0
-ListAnswer i r = IfOk r (λ xs. AreItems i xs []) × IfErr r (ItemsRefuse i)
-
-abbrev pub BodyAnswer : Pieces → Result Body FragError → Type 0
-BodyAnswer i r = IfOk r (λ x. BodyWithin most x × (i ≡ body_pieces x)) × IfErr r (BodyRefuses i)
-
-abbrev pub FragmentAnswer : FragmentKind → Edition → Pieces → Result Fragment FragError → Type 0
-FragmentAnswer kind edition i r = IfOk r (IsLongest kind edition i) × IfErr r (FragmentRefuses kind edition i)
 
 -- but for want of memory, a tree within the limit is the only answer to its yield
 abbrev pub FilesAreReadAgain : Type 0

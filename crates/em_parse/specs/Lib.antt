@@ -2,4 +2,4 @@ pub mod Answers
 pub mod Calls
 pub mod Decided
 pub mod Laws
-pub mod Readings
+pub mod Parts

@@ -2,18 +2,18 @@
 
 ghost use Rattle.std.specs.Prelude.{◌≡◌, ◌≤◌, ◌<◌, List, [], ◌∷◌, drop, length, IfOk, IfErr, MatchBool};
 ghost use Rattle.em_tree.specs.Nesting.{item_nesting};
-ghost use Rattle.em_tree.specs.ExprGrammar.{BodyWithin, body_pieces};
 ghost use Rattle.em_grammar.specs.Reader as read;
 ghost use Rattle.em_grammar.specs.ExprKnot as knot;
 ghost use Rattle.em_grammar.specs.FragmentLaws as law;
 ghost use Rattle.em_grammar.specs.ItemReader as spec;
 ghost use Rattle.em_read.specs.Parse.{Reads};
 ghost use Rattle.em_grammar.specs.NestLaws.{node_nesting};
-ghost use Rattle.em_parse.specs.Calls.{most, of_tokens, AreItems, Attributes, IsWhole, IsLongest};
+ghost use Rattle.em_parse.specs.Calls.{most, of_tokens, AreItems, Attributes, IsWhole, IsWholeBody, IsLongest};
 ghost use Rattle.em_base.specs.declared.token.Token.{Token};
 ghost use Rattle.em_tree.specs.Starts.{Pieces};
 ghost use Rattle.em_tree.specs.declared.piece.Piece.TheVariants as piece;
-ghost use Rattle.em_parse.specs.Answers.{refusal_of, Stops, ItemsStop, FileRefuses, ItemsRefuse, BodyRefuses, FragmentRefuses};
+ghost use Rattle.em_parse.specs.Answers.{FileRefuses, ItemsRefuse, BodyRefuses, FragmentRefuses};
+ghost use Rattle.em_parse.specs.Parts.{refusal_of, Stops, ItemsStop};
 
 use crate::error::ParseError;
 use em_base::{Edition, List, NoMemory, Token, Tokens, between, rest_from};
@@ -210,7 +210,7 @@ pub fn body_of<R: Readers>(
     readers: &R,
     pieces: &List<Piece>,
 ) -> Result<Body, FragError>
-    ensures ok { IfOk result (λ body. BodyWithin most body × (pieces.now ≡ body_pieces body)) }
+    ensures ok { IfOk result (IsWholeBody pieces.now) }
     ensures err { IfErr result (BodyRefuses pieces.now) }
 {
     em_grammar::bodies();

@@ -1,10 +1,14 @@
 use em_base::NoMemory;
+use thiserror::Error;
 
 /// Why tokens are no file: no item stands at an offset in bytes, where one should begin, or one that nests too deep.
-#[derive(Clone, Copy, Debug, PartialEq, Eq)]
+#[derive(Clone, Copy, Debug, Error, PartialEq, Eq)]
 pub enum ParseError {
+    #[error("out of memory")]
     NoMemory,
+    #[error("no item at byte {offset}")]
     NoItem { offset: u32 },
+    #[error("the item at byte {offset} nests too deep")]
     Depth { offset: u32 },
 }
 

@@ -1,8 +1,8 @@
 //! Laws of the calls.
 
 ghost use Rattle.em_parse.specs.Decided.{FilesAreDecided, ListsAreDecided, BodiesAreDecided, FragmentsAreDecided};
-ghost use Rattle.em_parse.specs.Readings.{Readings};
 ghost use Rattle.em_parse.specs.Laws.{FilesAreOne, ListsAreOne, BodiesAreOne, FragmentsAreOne, FilesAreReadAgain, ListsAreReadAgain, BodiesAreReadAgain, FragmentsAreReadAgain};
+ghost use Rattle.em_parse.specs.Parts.{Readings};
 
 /// Each category that a fragment may be is read.
 fn readings()
@@ -35,7 +35,7 @@ pub fn trees_are_one()
 }
 
 /// What tokens and pieces are decides the answer, but for want of memory: no two of the answers of a call hold at once, and
-/// each of them once. Only where pieces stand behind the longest fragment, they may also be too deep to tell that it ends.
+/// each of them once. Of lists of items that is so where fragments stand in one another at most 200 times.
 pub fn answers_are_decided()
     ensures files { FilesAreDecided }
     ensures lists { ListsAreDecided }
@@ -45,7 +45,6 @@ pub fn answers_are_decided()
     em_grammar::groups();
     readings();
     em_grammar::bodies();
-    em_grammar::exprs_nest();
     em_grammar::items();
     em_grammar::items_nest();
     em_grammar::attributes();
@@ -62,5 +61,7 @@ pub fn trees_are_read_again()
     answers_are_decided();
     em_grammar::groups();
     readings();
+    em_grammar::bodies();
+    em_grammar::exprs_nest();
     em_grammar::fragments_nest();
 }

@@ -1,8 +1,7 @@
 //! The calls of the parser.
 
-ghost use Rattle.std.specs.Prelude.{◌≡◌, ◌≤◌, [], drop, length, IfOk, IfErr};
-ghost use Rattle.em_tree.specs.ExprGrammar.{BodyWithin, body_pieces};
-ghost use Rattle.em_parse.specs.Calls.{most, AreItems, IsWhole, IsLongest};
+ghost use Rattle.std.specs.Prelude.{◌≤◌, [], drop, length, IfOk, IfErr};
+ghost use Rattle.em_parse.specs.Calls.{AreItems, IsWhole, IsWholeBody, IsLongest};
 ghost use Rattle.em_parse.specs.Answers.{FileRefuses, ItemsRefuse, BodyRefuses, FragmentRefuses};
 
 use crate::calls::{body_of, file_of, fragment_of, items_of};
@@ -35,7 +34,7 @@ pub fn parse_items(alloc: Global, pieces: &List<Piece>) -> Result<List<Item>, Fr
 /// (Reference, "Block expressions"). Answers `Broken` where they are none, and `Depth` where they nest deeper than 200 nodes
 /// or fragments. The body shares the texts of the pieces.
 pub fn parse_body(alloc: Global, pieces: &List<Piece>) -> Result<Body, FragError>
-    ensures ok { IfOk result (λ body. BodyWithin most body × (pieces.now ≡ body_pieces body)) }
+    ensures ok { IfOk result (IsWholeBody pieces.now) }
     ensures err { IfErr result (BodyRefuses pieces.now) }
 {
     body_of(alloc, &Trees, pieces)

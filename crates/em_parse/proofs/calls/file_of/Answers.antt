@@ -1,6 +1,6 @@
 use Rattle.std.proofs.Common.{subst, ap, ◌∙◌}
-use Rattle.em_parse.specs.Answers.{ItemsStop}
 use Rattle.em_parse.specs.Calls.{of_tokens}
+use Rattle.em_parse.specs.Parts.{ItemsStop}
 use Rattle.em_parse.proofs.Places.{no_item, deep_item}
 use Rattle.em_parse.proofs.calls.file_of.Goals as goal
 

@@ -6,6 +6,6 @@ pub returns : goal.returns
 returns c = record {
   files = files_decided c.items.ensures.read c.items_nest.ensures.items c.attributes.ensures.files c.items.ensures.apart;
   lists = lists_decided c.items.ensures.read c.items_nest.ensures.items;
-  bodies = bodies_decided c.bodies.ensures.read c.bodies.ensures.one c.exprs_nest.ensures.bodies;
+  bodies = bodies_decided c.bodies.ensures.one;
   fragments = fragments_decided c.readings.ensures c.groups.ensures.nest c.fragments_nest.ensures.fragments;
 }

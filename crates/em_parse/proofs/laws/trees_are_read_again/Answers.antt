@@ -5,6 +5,6 @@ pub returns : goal.returns
 returns c = record {
   files = files_again c.answers_are_decided.ensures.files;
   lists = lists_again c.answers_are_decided.ensures.lists;
-  bodies = bodies_again c.answers_are_decided.ensures.bodies;
+  bodies = bodies_again c.bodies.ensures.read c.bodies.ensures.one c.exprs_nest.ensures.bodies;
   fragments = fragments_again c.readings.ensures c.groups.ensures.nest c.fragments_nest.ensures.fragments;
 }
