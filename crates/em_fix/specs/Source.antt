@@ -32,14 +32,14 @@ pub record IsFault (text : List ℕ) (place : Place) (kind : LexKind) : Type 0 w
   pub file : place.file ≡ 0
   pub first : FirstFault E2015 text kind place.offset
 
--- a text has tokens under 2015, and at this place an item should begin and none does
+-- a text has tokens under 2015, and at this place an item should begin and none of any depth does
 pub record IsNoFile (text : List ℕ) (place : Place) : Type 0 where
   pub file : place.file ≡ 0
   pub tokens : List Token
   pub lexes : Lexes 0 E2015 text tokens
   pub none : NoItemAt tokens place.offset
 
--- a text has tokens under 2015, and an item of theirs nests too deep
+-- a text has tokens under 2015, and reading an item of theirs comes too deep
 pub record IsDeepFile (text : List ℕ) : Type 0 where
   pub tokens : List Token
   pub lexes : Lexes 0 E2015 text tokens

@@ -53,7 +53,7 @@ pub record AreItems (i : Pieces) (items : List Item) (rest : Pieces) : Type 0 wh
 abbrev pub AreNoItems : Pieces → Type 0
 AreNoItems i = (items : List Item) × (rest : Pieces) × AreItems i items rest × (rest ≡ [] → ⊥) × NoItemStands rest
 
--- behind some items stands one that nests too deep
+-- behind some items, reading a further one comes too deep
 abbrev pub AreDeepItems : Pieces → Type 0
 AreDeepItems i = (items : List Item) × (rest : Pieces) × AreItems i items rest × DeepItemStands rest
 
@@ -86,7 +86,7 @@ pub record ItemBegins (tokens : List Token) (offset : ℕ) (begins : Pieces → 
 abbrev pub NoItemAt : List Token → ℕ → Type 0
 NoItemAt tokens offset = ItemBegins tokens offset NoItemStands
 
--- one stands there that nests too deep
+-- reading one there comes too deep
 abbrev pub DeepItemAt : List Token → ℕ → Type 0
 DeepItemAt tokens offset = ItemBegins tokens offset DeepItemStands
 

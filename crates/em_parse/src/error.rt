@@ -1,7 +1,8 @@
 use em_base::NoMemory;
 use thiserror::Error;
 
-/// Why tokens are no file: no item stands at an offset in bytes, where one should begin, or one that nests too deep.
+/// Why tokens are no file. At an offset in bytes, where an item should begin, none of any depth stands, or reading one comes
+/// to a place with more than 200 nodes open, or what is read nests deeper.
 #[derive(Clone, Copy, Debug, Error, PartialEq, Eq)]
 pub enum ParseError {
     #[error("out of memory")]

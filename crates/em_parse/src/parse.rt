@@ -11,9 +11,10 @@ use em_base::{Edition, List, Tokens};
 use em_tree::{Body, FileTree, FragError, Fragment, FragmentKind, Item, Piece};
 use std::alloc::Global;
 
-/// The only tree of the tokens of a file: its attributes and items (Reference, "Crates and source files"). Answers `NoItem`
-/// at the token where an item should begin and none does, and `Depth` where one begins that nests deeper than 200 nodes,
-/// both with the token's offset in bytes. The tree shares the texts of the tokens.
+/// The only tree of the tokens of a file: its attributes and items (Reference, "Crates and source files"). Answers at the
+/// token where an item should begin, with its offset in bytes: `Depth` where reading one comes to a place with more than
+/// 200 nodes open, or what is read nests deeper, and `NoItem` where it doesn't and no item of any depth stands there. The
+/// tree shares the texts of the tokens.
 pub fn parse_file(alloc: Global, tokens: &Tokens) -> Result<FileTree, ParseError>
     ensures ok { IfOk result (IsWhole tokens.now.list) }
     ensures err { IfErr result (FileRefuses tokens.now.list) }
@@ -21,8 +22,9 @@ pub fn parse_file(alloc: Global, tokens: &Tokens) -> Result<FileTree, ParseError
     file_of(alloc, &Trees, tokens)
 }
 
-/// The only list of items that the pieces are, empty for no pieces (Reference, "Items"). Answers `Broken` where they are
-/// none, and `Depth` where an item nests deeper than 200 nodes or fragments. The items share the texts of the pieces.
+/// The only list of items that the pieces are, empty for no pieces (Reference, "Items"). Answers `Depth` where reading an
+/// item comes to a place with more than 200 nodes or fragments open, or what is read nests deeper, and `Broken` where it
+/// doesn't and no item of any depth stands there. The items share the texts of the pieces.
 pub fn parse_items(alloc: Global, pieces: &List<Piece>) -> Result<List<Item>, FragError>
     ensures ok { IfOk result (λ items. AreItems pieces.now items []) }
     ensures err { IfErr result (ItemsRefuse pieces.now) }
@@ -31,8 +33,9 @@ pub fn parse_items(alloc: Global, pieces: &List<Piece>) -> Result<List<Item>, Fr
 }
 
 /// The only statements, and the tail if there is one, that the pieces are: what a block has between its braces
-/// (Reference, "Block expressions"). Answers `Broken` where they are none, and `Depth` where they nest deeper than 200 nodes
-/// or fragments. The body shares the texts of the pieces.
+/// (Reference, "Block expressions"). Answers `Depth` where reading them comes to a place with more than 200 nodes or
+/// fragments open, or what is read nests deeper, and `Broken` where it doesn't and they are no body of any depth. The body
+/// shares the texts of the pieces.
 pub fn parse_body(alloc: Global, pieces: &List<Piece>) -> Result<Body, FragError>
     ensures ok { IfOk result (IsWholeBody pieces.now) }
     ensures err { IfErr result (BodyRefuses pieces.now) }
@@ -42,9 +45,10 @@ pub fn parse_body(alloc: Global, pieces: &List<Piece>) -> Result<Body, FragError
 
 /// The longest fragment of a kind that the pieces from an index on begin with, and the number of its pieces (Reference,
 /// "Metavariables"). The index is at most the number of the pieces. The edition is that of the word that names the kind, and
-/// matters for `pat` alone. Answers `CannotStart` where no piece is there or it starts none of the kind, `Broken` where it
-/// starts one and no fragment of the kind is there, and `Depth` where reading it comes to more than 200 nodes or fragments in one
-/// another. The fragment shares the texts of the pieces.
+/// matters for `pat` alone. Answers `CannotStart` where no piece is there or it starts none of the kind, `Depth` where reading
+/// one comes to a place with more than 200 nodes or fragments open, be it behind a shorter one, or what is read nests deeper,
+/// and `Broken` where it doesn't and no fragment of the kind and of any depth is there. The fragment shares the texts of the
+/// pieces.
 pub fn parse_fragment(
     alloc: Global,
     kind: FragmentKind,
