@@ -4,6 +4,7 @@ use em_lex::{Lexings, lex};
 use em_parse::parse_fragment;
 use em_tree::{FragmentKind, Group, Piece};
 use std::alloc::Global;
+use std::mem;
 
 /// What is asked of the parser.
 #[derive(Clone, Copy, PartialEq, Eq)]
@@ -22,8 +23,8 @@ pub enum Call {
 ///
 /// - `@2015`, `@2018` or `@2021`: what follows is text of the edition.
 /// - `@from`: the fragment begins here.
-/// - `@KIND`: what follows, up to a word `@`, is put in as a fragment of the kind.
-/// - a number, `×` and a word: the word so often.
+/// - `@KIND`: what follows, up to its word `@`, is put in as a fragment of the kind. Fragments may stand in one another.
+/// - a number, `×` and a word: the word so often, be it one of these.
 ///
 /// A call is `file`, `items`, `body`, or a kind, maybe with `/` and the edition of the word that names it.
 #[derive(Drop)]
@@ -33,9 +34,15 @@ pub struct Row {
     pub tokens: Tokens,
     pub pieces: List<Piece>,
     pub from: usize,
-    group: Option<FragmentKind>,
-    inside: List<Piece>,
+    opened: Vec<Open>,
     text: String,
+}
+
+/// A fragment whose end isn't read yet, and the pieces before it.
+#[derive(Drop)]
+struct Open {
+    kind: FragmentKind,
+    before: List<Piece>,
 }
 
 fn edition_of(word: &str) -> Option<Edition> {
@@ -97,48 +104,55 @@ impl Row {
             },
             pieces: List::new(alloc),
             from: 0,
-            group: None,
-            inside: List::new(alloc),
+            opened: Vec::new(alloc),
             text: String::new(alloc),
         };
         for word in words {
             row.word(alloc, word)?;
         }
         row.end_text(alloc)?;
-        Ok(row)
-    }
-
-    fn word(&mut self, alloc: Global, word: &str) -> Result<(), Fault> {
-        match word.strip_prefix('@') {
-            Some(mark) => self.mark(alloc, mark),
-            None => self.put(word),
+        if row.opened.is_empty() {
+            Ok(row)
+        } else {
+            Err(Fault::NoRow)
         }
     }
 
-    /// Puts a word behind the text, or one of the form `3×WORD` three times.
-    fn put(&mut self, word: &str) -> Result<(), Fault> {
+    /// Reads a word, or one of the form `3×WORD` three times.
+    fn word(&mut self, alloc: Global, word: &str) -> Result<(), Fault> {
         let (count, word) = match word.split_once('×') {
             Some((count, word)) => (count.parse::<u32>().unwrap_or(0), word),
             None => (1, word),
         };
         for _ in 0..count {
-            self.text.push_str(word)?;
-            self.text.push(' ')?;
+            match word.strip_prefix('@') {
+                Some(mark) => self.mark(alloc, mark)?,
+                None => self.put(word)?,
+            }
         }
+        Ok(())
+    }
+
+    /// Puts a word behind the text.
+    fn put(&mut self, word: &str) -> Result<(), Fault> {
+        self.text.push_str(word)?;
+        self.text.push(' ')?;
         Ok(())
     }
 
     fn mark(&mut self, alloc: Global, mark: &str) -> Result<(), Fault> {
         self.end_text(alloc)?;
         if mark.is_empty() {
-            return self.close_group(alloc);
+            return self.close(alloc);
         }
         if mark == "from" {
             self.from = self.pieces.len();
         } else if let Some(edition) = edition_of(mark) {
             self.edition = edition;
         } else {
-            self.group = Some(kind_of(mark).ok_or(Fault::NoRow)?);
+            let kind = kind_of(mark).ok_or(Fault::NoRow)?;
+            let before = mem::replace(&mut self.pieces, List::new(alloc));
+            self.opened.push(Open { kind, before })?;
         }
         Ok(())
     }
@@ -154,11 +168,7 @@ impl Row {
         )?;
         self.text = String::new(alloc);
         for token in tokens.list.as_slice() {
-            let piece = Piece::Token(token.share(alloc)?);
-            match self.group {
-                Some(_) => self.inside.push(piece)?,
-                None => self.pieces.push(piece)?,
-            }
+            self.pieces.push(Piece::Token(token.share(alloc)?))?;
         }
         for token in tokens.list.as_slice() {
             self.tokens.list.push(token.share(alloc)?)?;
@@ -166,13 +176,14 @@ impl Row {
         Ok(())
     }
 
-    /// The pieces inside become one.
-    fn close_group(&mut self, alloc: Global) -> Result<(), Fault> {
-        let kind = self.group.ok_or(Fault::NoRow)?;
-        let Ok(fragment) = parse_fragment(alloc, kind, self.edition, &self.inside, 0) else {
+    /// The pieces of the last open fragment become one.
+    fn close(&mut self, alloc: Global) -> Result<(), Fault> {
+        let Open { kind, before } = self.opened.pop().ok_or(Fault::NoRow)?;
+        let inside = mem::replace(&mut self.pieces, before);
+        let Ok(fragment) = parse_fragment(alloc, kind, self.edition, &inside, 0) else {
             return Err(Fault::NoRow);
         };
-        if fragment.taken < self.inside.len() {
+        if fragment.taken < inside.len() {
             return Err(Fault::NoRow);
         }
         self.pieces.push(Piece::Group(Group {
@@ -186,8 +197,6 @@ impl Row {
             edition: self.edition,
             pieces: fragment.pieces.share()?,
         }))?;
-        self.group = None;
-        self.inside = List::new(alloc);
         Ok(())
     }
 }
