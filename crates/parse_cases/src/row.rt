@@ -1,5 +1,5 @@
 use crate::fault::Fault;
-use em_base::{Edition, List, Span, Token, Tokens};
+use em_base::{Edition, List, NoMemory, Span, Token, Tokens};
 use em_lex::{Lexings, lex};
 use em_parse::parse_fragment;
 use em_tree::{FragmentKind, Group, Piece};
@@ -34,13 +34,13 @@ pub struct Row {
     pub tokens: Tokens,
     pub pieces: List<Piece>,
     pub from: usize,
-    opened: Vec<Open>,
+    unclosed: Vec<Unclosed>,
     text: String,
 }
 
 /// A fragment whose end isn't read yet, and the pieces before it.
 #[derive(Drop)]
-struct Open {
+struct Unclosed {
     kind: FragmentKind,
     before: List<Piece>,
 }
@@ -104,14 +104,14 @@ impl Row {
             },
             pieces: List::new(alloc),
             from: 0,
-            opened: Vec::new(alloc),
+            unclosed: Vec::new(alloc),
             text: String::new(alloc),
         };
         for word in words {
             row.word(alloc, word)?;
         }
         row.end_text(alloc)?;
-        if row.opened.is_empty() {
+        if row.unclosed.is_empty() {
             Ok(row)
         } else {
             Err(Fault::NoRow)
@@ -150,10 +150,15 @@ impl Row {
         } else if let Some(edition) = edition_of(mark) {
             self.edition = edition;
         } else {
-            let kind = kind_of(mark).ok_or(Fault::NoRow)?;
-            let before = mem::replace(&mut self.pieces, List::new(alloc));
-            self.opened.push(Open { kind, before })?;
+            self.begin(alloc, kind_of(mark).ok_or(Fault::NoRow)?)?;
         }
+        Ok(())
+    }
+
+    /// What follows stands in a fragment of the kind.
+    fn begin(&mut self, alloc: Global, kind: FragmentKind) -> Result<(), NoMemory> {
+        let before = mem::replace(&mut self.pieces, List::new(alloc));
+        self.unclosed.push(Unclosed { kind, before })?;
         Ok(())
     }
 
@@ -176,9 +181,9 @@ impl Row {
         Ok(())
     }
 
-    /// The pieces of the last open fragment become one.
+    /// The pieces of the last fragment that isn't closed become one.
     fn close(&mut self, alloc: Global) -> Result<(), Fault> {
-        let Open { kind, before } = self.opened.pop().ok_or(Fault::NoRow)?;
+        let Unclosed { kind, before } = self.unclosed.pop().ok_or(Fault::NoRow)?;
         let inside = mem::replace(&mut self.pieces, before);
         let Ok(fragment) = parse_fragment(alloc, kind, self.edition, &inside, 0) else {
             return Err(Fault::NoRow);
