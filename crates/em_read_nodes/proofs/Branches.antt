@@ -1,5 +1,5 @@
 -- The parts behind the block of an `if`, found one after the other.
-use Rattle.std.proofs.Common.{◌≡◌, ℕ, zero, suc, if◌then◌else◌, List, [], ◌∷◌, ◌++◌, length, Option, Some, None, refl, sym, ap, ◌∙◌}
+use Rattle.std.proofs.Common.{◌≡◌, ℕ, zero, suc, if◌then◌else◌, List, [], ◌∷◌, ◌++◌, length, Option, Some, None, Result, refl, sym, ap, subst, ◌∙◌}
 use Rattle.std.proofs.lemmas.List.{append-nil}
 use Rattle.em_base.specs.declared.token.Token.{Token}
 use Rattle.em_tree.specs.declared.expr.Block.{Block}
@@ -15,6 +15,8 @@ use Rattle.em_grammar.specs.Rows.{rows, rows_of}
 use Rattle.em_grammar.specs.ExprReader.{Readers}
 use Rattle.em_grammar.specs.BranchReader as spec
 use Rattle.em_grammar.specs.BranchReader.{ElsePart, Further, Last, goes_further, branches_of, word_else_of, otherwise_of}
+use Rattle.em_read.specs.declared.stop.Stop.{Stop}
+use Rattle.em_read.specs.Parse.{Reads}
 use Rattle.em_read_nodes.specs.declared.branch.Branches.{Branches}
 use Rattle.em_read_nodes.specs.Branches as part
 
@@ -119,3 +121,7 @@ module _ (s : Readers) where
 
   pub if_at : (i : Pieces) → spec.if' s i ≡ mapped part.if_as (seq (token (is_sign word.If)) (seq (spec.condition' s) (seq s.block S))) i
   if_at i = word_alike (token (is_sign word.If) i)
+
+  -- what is read so is the `if`
+  pub if_reads : (i : Pieces) (r : Result Expr Stop) (rest : Pieces) → Reads (mapped part.if_as (seq (token (is_sign word.If)) (seq (spec.condition' s) (seq s.block S))) i) r rest → Reads (spec.if' s i) r rest
+  if_reads i r rest h = subst (λ o. Reads o r rest) (sym (if_at i)) h

@@ -53,21 +53,26 @@ module _ (on : Expr → Set) (suffix : Pieces → Read spec.Suffix) where
   by_stop x turns at left i new out stop.NoMemory below is reads = tt
 
   -- what goes on with it wasn't read
-  pub turn_fails : (x : Read Expr) (turns at : ℕ) (left : Expr) (i new out : Pieces) (e : Stop) (r : Result Expr Stop) → at < turns
-      → x ≡ climb on suffix spec.apply (turns - at) left i → Gives suffix_if_as (suffix_if (on left) suffix i) (Err e) new → r ≡ Err e → Reads x r out
-  turn_fails x turns at left i new out e r below is reads fails =
-      subst (λ (q : Result Expr Stop). Reads x q out) (sym fails) (by_stop x turns at left i new out e below is reads)
+  pub turn_fails : (x : Read Expr) (turns at : ℕ) (left same : Expr) (i new out : Pieces) (e : Stop) (r : Result Expr Stop) → at < turns
+      → x ≡ climb on suffix spec.apply (turns - at) left i → Gives suffix_if_as (suffix_if (on same) suffix i) (Err e) new → same ≡ left → r ≡ Err e → Reads x r out
+  turn_fails x turns at left same i new out e r below is reads alike fails =
+      subst (λ (q : Result Expr Stop). Reads x q out) (sym fails)
+      (by_stop x turns at left i new out e below is (subst (λ l. Gives suffix_if_as (suffix_if (on l) suffix i) (Err e) new) alike reads))
+
+  at_left : (left same : Expr) (i : Pieces) (found : Read (Option spec.Suffix)) → suffix_if (on same) suffix i ≡ found → same ≡ left → suffix_if (on left) suffix i ≡ found
+  at_left left same i found reads alike = ap (λ l. suffix_if (on l) suffix i) (sym alike) ∙ reads
 
   -- nothing goes on with it
-  pub turn_ends : (x : Read Expr) (turns at : ℕ) (left : Expr) (i new : Pieces) → at < turns → x ≡ climb on suffix spec.apply (turns - at) left i
-      → suffix_if (on left) suffix i ≡ Found None new → x ≡ Found left new
-  turn_ends x turns at left i new below is reads = one_turn x turns at left i (Found None new) below is reads
+  pub turn_ends : (x : Read Expr) (turns at : ℕ) (left same : Expr) (i new : Pieces) → at < turns → x ≡ climb on suffix spec.apply (turns - at) left i
+      → suffix_if (on same) suffix i ≡ Found None new → same ≡ left → x ≡ Found left new
+  turn_ends x turns at left same i new below is reads alike = one_turn x turns at left i (Found None new) below is (at_left left same i (Found None new) reads alike)
 
   -- it goes on
-  pub turn_goes : (x : Read Expr) (turns at : ℕ) (left grown : Expr) (s : spec.Suffix) (i new : Pieces) → at < turns → x ≡ climb on suffix spec.apply (turns - at) left i
-      → suffix_if (on left) suffix i ≡ Found (Some s) new → grown ≡ spec.apply left s → x ≡ climb on suffix spec.apply (turns - (at + 1)) grown new
-  turn_goes x turns at left grown s i new below is reads made =
-      one_turn x turns at left i (Found (Some s) new) below is reads ∙ ap (λ l. climb on suffix spec.apply (turns - (at + 1)) l new) (sym made)
+  pub turn_goes : (x : Read Expr) (turns at : ℕ) (left same grown : Expr) (s : spec.Suffix) (i new : Pieces) → at < turns → x ≡ climb on suffix spec.apply (turns - at) left i
+      → suffix_if (on same) suffix i ≡ Found (Some s) new → same ≡ left → grown ≡ spec.apply left s → x ≡ climb on suffix spec.apply (turns - (at + 1)) grown new
+  turn_goes x turns at left same grown s i new below is reads alike made =
+      one_turn x turns at left i (Found (Some s) new) below is (at_left left same i (Found (Some s) new) reads alike)
+      ∙ ap (λ l. climb on suffix spec.apply (turns - (at + 1)) l new) (sym made)
 
   -- no turn is left
   pub too_deep : (x : Read Expr) (turns at : ℕ) (left : Expr) (i : Pieces) → turns ≤ at → x ≡ climb on suffix spec.apply (turns - at) left i

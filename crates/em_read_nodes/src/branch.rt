@@ -190,7 +190,7 @@ fn else_part_if<I: Inside>(
 }
 
 /// The branches behind the block of an `if`.
-#[tactic(auto, using(crate::proofs::Parts::goes, crate::proofs::Parts::ends, crate::proofs::Parts::sinks, crate::proofs::Parts::lacks, crate::proofs::Parts::done))]
+#[tactic(auto, using(crate::proofs::Parts::sinks, crate::proofs::Parts::lacks, crate::proofs::Parts::done))]
 fn further_branches<I: Inside>(
     alloc: Global,
     inside: &I,
@@ -213,16 +213,32 @@ fn further_branches<I: Inside>(
     Ok(found)
 }
 
-/// An `if`, with its further branches.
-#[tactic(auto, using(crate::proofs::Branches::if_at))]
-pub fn if_expr<I: Inside>(alloc: Global, inside: &I, input: &mut Cursor<'_>) -> Result<Expr, Stop>
+/// The block of an `if` and its further branches.
+fn then_branches<I: Inside>(
+    alloc: Global,
+    inside: &I,
+    input: &mut Cursor<'_>,
+) -> Result<(Boxed<Block<Body>>, Branches), Stop>
     requires { I.ready inside.now }
-    ensures { Reads (spec.if' (I.readers inside.now) input.old.rest.now) result input.new.rest.now }
+    ensures { Reads (seq (I.readers inside.now).block (part.branches (spec.else_part (I.readers inside.now))) input.old.rest.now) result input.new.rest.now }
+{
+    let then = block(alloc, inside, input)?;
+    let branches = further_branches(alloc, inside, input)?;
+    Ok((then, branches))
+}
+
+/// An `if`, by its branches as they are found.
+fn if_by_branches<I: Inside>(
+    alloc: Global,
+    inside: &I,
+    input: &mut Cursor<'_>,
+) -> Result<Expr, Stop>
+    requires { I.ready inside.now }
+    ensures { Reads (mapped part.if_as (seq (read.token (is_sign word.If)) (seq (spec.condition' (I.readers inside.now)) (seq (I.readers inside.now).block (part.branches (spec.else_part (I.readers inside.now)))))) input.old.rest.now) result input.new.rest.now }
 {
     let word = sign(alloc, input, Written::If)?;
     let condition = condition(alloc, inside, input)?;
-    let then = block(alloc, inside, input)?;
-    let branches = further_branches(alloc, inside, input)?;
+    let (then, branches) = then_branches(alloc, inside, input)?;
     Ok(Expr::If {
         word,
         condition,
@@ -233,7 +249,30 @@ pub fn if_expr<I: Inside>(alloc: Global, inside: &I, input: &mut Cursor<'_>) -> 
     })
 }
 
+/// An `if`, with its further branches.
+pub fn if_expr<I: Inside>(alloc: Global, inside: &I, input: &mut Cursor<'_>) -> Result<Expr, Stop>
+    requires { I.ready inside.now }
+    ensures { Reads (spec.if' (I.readers inside.now) input.old.rest.now) result input.new.rest.now }
+{
+    if_by_branches(alloc, inside, input)
+}
+
 // ---- `match`
+
+/// The body of an arm and its comma, if there is one.
+fn arm_end<I: Inside>(
+    alloc: Global,
+    inside: &I,
+    input: &mut Cursor<'_>,
+) -> Result<(Boxed<Expr>, Option<Shared<Token>>), Stop>
+    requires { I.ready inside.now }
+    ensures { Reads (read.chain ((I.readers inside.now).inner from.InArm 0 false) (λ _. read.opt (read.token (is_sign word.Comma))) input.old.rest.now) result input.new.rest.now }
+{
+    let body = inside.expr(input, Start::InArm, 0, false)?;
+    let body = Boxed::new(alloc, body)?;
+    let comma = sign_if(alloc, input, Written::Comma)?;
+    Ok((body, comma))
+}
 
 fn arm<I: Inside>(alloc: Global, inside: &I, input: &mut Cursor<'_>) -> Result<Arm<Expr>, Stop>
     requires { I.ready inside.now }
@@ -241,12 +280,11 @@ fn arm<I: Inside>(alloc: Global, inside: &I, input: &mut Cursor<'_>) -> Result<A
 {
     let pat = inside.top_pat(input)?;
     let arrow = sign(alloc, input, Written::FatArrow)?;
-    let body = inside.expr(input, Start::InArm, 0, false)?;
-    let comma = sign_if(alloc, input, Written::Comma)?;
+    let (body, comma) = arm_end(alloc, inside, input)?;
     Ok(Arm {
         pat,
         arrow,
-        body,
+        body: body.into_inner(),
         comma,
     })
 }
