@@ -3,7 +3,8 @@
 ghost use Rattle.std.specs.Prelude.{◌+◌, ◌<◌};
 ghost use Rattle.em_grammar.specs.ItemReader as spec;
 ghost use Rattle.em_read.specs.Parse.{Reads, opened_by};
-ghost use Rattle.em_read_trees.specs.ItemKnot.{Knot, no_item, inner_at};
+ghost use Rattle.em_read_trees.specs.ExprKnots.{Knot};
+ghost use Rattle.em_read_trees.specs.ItemKnot.{no_item, inner_at};
 
 use crate::expr_knot::block_in;
 use em_read::{Cursor, Stop};
@@ -22,7 +23,7 @@ pub struct ItemParts<F> {
 }
 
 impl<F: Fn(Global, &mut Cursor<'_>, usize, usize) -> Result<Item, Stop>> Parts for ItemParts<F> {
-    ghost ready = { λ s. (0 < s.depth) × Knot (s.groups + s.depth) (F.pre s.items) (F.post s.items) };
+    ghost ready = { λ s. (0 < s.depth) × Knot spec.item_in (s.groups + s.depth) (F.pre s.items) (F.post s.items) };
 
     ghost inner = { λ s. inner_at s.groups s.depth };
 
