@@ -45,17 +45,17 @@ fn list(alloc: Global, out: &mut String, list: &[Listed<Expr>]) -> Result<(), No
     Ok(())
 }
 
-/// An operator between two expressions.
+/// What stands before an expression, and the expression.
 #[cycle(exprs)]
-fn between(
-    alloc: Global,
-    out: &mut String,
-    left: &Expr,
-    operator: &Token,
-    right: &Expr,
-) -> Result<(), NoMemory> {
+fn opened(alloc: Global, out: &mut String, form: &str, first: &Expr) -> Result<(), NoMemory> {
     out.push('(')?;
-    expr(alloc, out, left)?;
+    out.push_str(form)?;
+    expr(alloc, out, first)
+}
+
+/// An operator and the expression behind it.
+#[cycle(exprs)]
+fn behind(alloc: Global, out: &mut String, operator: &Token, right: &Expr) -> Result<(), NoMemory> {
     out.push(' ')?;
     token(out, operator)?;
     out.push(' ')?;
@@ -88,7 +88,10 @@ pub fn expr(alloc: Global, out: &mut String, tree: &Expr) -> Result<(), NoMemory
             left,
             operator,
             right,
-        } => between(alloc, out, left.get(), operator.get(), right.get()),
+        } => {
+            opened(alloc, out, "", left.get())?;
+            behind(alloc, out, operator.get(), right.get())
+        }
         Expr::Unary { operator, operand } => before(
             alloc,
             out,
@@ -106,14 +109,20 @@ pub fn expr(alloc: Global, out: &mut String, tree: &Expr) -> Result<(), NoMemory
         Expr::Group { inner, .. } => before(alloc, out, "group", inner.get()),
         Expr::MethodCall {
             receiver,
-            arguments,
+            arguments: found,
             ..
-        } => applied(alloc, out, "method", receiver.get(), arguments.as_slice()),
+        } => {
+            opened(alloc, out, "method ", receiver.get())?;
+            arguments(alloc, out, found.as_slice())
+        }
         Expr::Call {
             callee,
-            arguments,
+            arguments: found,
             ..
-        } => applied(alloc, out, "call", callee.get(), arguments.as_slice()),
+        } => {
+            opened(alloc, out, "call ", callee.get())?;
+            arguments(alloc, out, found.as_slice())
+        }
         Expr::Field { base, .. } => before(alloc, out, "field", base.get()),
         Expr::Place { base, .. } => before(alloc, out, "place", base.get()),
         Expr::Index { base, index, .. } => {
@@ -128,21 +137,10 @@ pub fn expr(alloc: Global, out: &mut String, tree: &Expr) -> Result<(), NoMemory
     }
 }
 
-/// What is called, and the arguments.
 #[cycle(exprs)]
-fn applied(
-    alloc: Global,
-    out: &mut String,
-    form: &str,
-    callee: &Expr,
-    arguments: &[Listed<Expr>],
-) -> Result<(), NoMemory> {
-    out.push('(')?;
-    out.push_str(form)?;
-    out.push(' ')?;
-    expr(alloc, out, callee)?;
+fn arguments(alloc: Global, out: &mut String, found: &[Listed<Expr>]) -> Result<(), NoMemory> {
     out.push_str(" [")?;
-    list(alloc, out, arguments)?;
+    list(alloc, out, found)?;
     out.push_str("])")?;
     Ok(())
 }
