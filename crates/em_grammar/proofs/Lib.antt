@@ -1,5 +1,6 @@
 pub mod Sorts
 pub mod AllSorts
+pub mod LikelyWords
 pub mod Pairs
 pub mod Lists
 pub mod Forms

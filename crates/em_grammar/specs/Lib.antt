@@ -1,4 +1,5 @@
 pub mod Sorts
+pub mod Likely
 pub mod Sets
 pub mod Lang
 pub mod Reader

@@ -6,6 +6,7 @@ mod expr_laws;
 mod fragment_laws;
 mod item_laws;
 mod laws;
+mod likely;
 mod nest_laws;
 mod sort;
 mod token;

@@ -1,12 +1,15 @@
 //! What a token is to the grammar.
 
-ghost use Rattle.std.specs.Prelude.{◌≡◌, true, [], map, Contains, IfSome, IfNone, Some, slice_get};
-ghost use Rattle.em_base.specs.Words.{texts, is_ascending};
+ghost use Rattle.std.specs.Prelude.{◌≡◌, true};
+ghost use Rattle.em_base.specs.declared.edition.Edition.{Edition};
+ghost use Rattle.em_base.specs.declared.words.Class.TheVariants as class;
+ghost use Rattle.em_base.specs.Words as words;
 ghost use Rattle.em_tree.specs.Starts.{is_name, is_literal, is_lifetime};
 ghost use Rattle.em_tree.specs.Tokens.{int_kind};
-ghost use Rattle.em_grammar.specs.Sorts.{text_of, the_written, written_of, weak_of, class_of, sort_of};
+ghost use Rattle.em_grammar.specs.Sorts.{text_of, written_of, weak_of, class_of, sort_of};
 
-use em_base::{Class, Edition, Token, TokenKind, Word, find, keyword_in};
+use crate::likely::{likely, may_be_other};
+use em_base::{Class, Token, TokenKind, keyword_in};
 use em_tree::spelling;
 
 /// The words and signs that the grammar writes out: the strict keywords of every edition, punctuation with `_`, and
@@ -222,124 +225,6 @@ pub enum Sort {
     Plain(Kind),
 }
 
-macro_rules! words {
-    ($($text:literal),* $(,)?) => {
-        [$(Word { text: $text, since: Edition::E2015 }),*]
-    };
-}
-
-/// The texts, in ascending order.
-fn words() -> [Word; 88]
-    ensures ascending { is_ascending (texts result) ≡ true }
-    ensures same { texts result ≡ map text_of the_written }
-{
-    words!(
-        "!", "!=", "#", "$", "%", "%=", "&", "&&", "&=", "(", ")", "*", "*=", "+", "+=", ",", "-",
-        "-=", "->", ".", "..", "...", "..=", "/", "/=", ":", "::", ";", "<", "<-", "<<", "<<=",
-        "<=", "=", "==", "=>", ">", ">=", ">>", ">>=", "?", "@", "Self", "[", "]", "^", "^=", "_",
-        "as", "break", "const", "continue", "crate", "else", "enum", "extern", "false", "fn",
-        "for", "if", "impl", "in", "let", "loop", "match", "mod", "move", "mut", "pub", "ref",
-        "return", "self", "static", "struct", "super", "trait", "true", "type", "unsafe", "use",
-        "where", "while", "{", "|", "|=", "||", "}", "~",
-    )
-}
-
-/// What is written so, in the same order.
-fn all() -> [Written; 88]
-    ensures { result ≡ the_written }
-{
-    [
-        Written::Not,
-        Written::Ne,
-        Written::Pound,
-        Written::Dollar,
-        Written::Percent,
-        Written::PercentEq,
-        Written::And,
-        Written::AndAnd,
-        Written::AndEq,
-        Written::OpenParen,
-        Written::CloseParen,
-        Written::Star,
-        Written::StarEq,
-        Written::Plus,
-        Written::PlusEq,
-        Written::Comma,
-        Written::Minus,
-        Written::MinusEq,
-        Written::RArrow,
-        Written::Dot,
-        Written::DotDot,
-        Written::DotDotDot,
-        Written::DotDotEq,
-        Written::Slash,
-        Written::SlashEq,
-        Written::Colon,
-        Written::PathSep,
-        Written::Semi,
-        Written::Lt,
-        Written::LArrow,
-        Written::Shl,
-        Written::ShlEq,
-        Written::Le,
-        Written::Eq,
-        Written::EqEq,
-        Written::FatArrow,
-        Written::Gt,
-        Written::Ge,
-        Written::Shr,
-        Written::ShrEq,
-        Written::Question,
-        Written::At,
-        Written::SelfType,
-        Written::OpenBracket,
-        Written::CloseBracket,
-        Written::Caret,
-        Written::CaretEq,
-        Written::Underscore,
-        Written::As,
-        Written::Break,
-        Written::Const,
-        Written::Continue,
-        Written::Crate,
-        Written::Else,
-        Written::Enum,
-        Written::Extern,
-        Written::False,
-        Written::Fn,
-        Written::For,
-        Written::If,
-        Written::Impl,
-        Written::In,
-        Written::Let,
-        Written::Loop,
-        Written::Match,
-        Written::Mod,
-        Written::Move,
-        Written::Mut,
-        Written::Pub,
-        Written::Ref,
-        Written::Return,
-        Written::SelfValue,
-        Written::Static,
-        Written::Struct,
-        Written::Super,
-        Written::Trait,
-        Written::True,
-        Written::Type,
-        Written::Unsafe,
-        Written::Use,
-        Written::Where,
-        Written::While,
-        Written::OpenBrace,
-        Written::Or,
-        Written::OrEq,
-        Written::OrOr,
-        Written::CloseBrace,
-        Written::Tilde,
-    ]
-}
-
 /// The text of a word or sign.
 pub fn text_of(sign: Written) -> &'static str
     ensures { result.now ≡ text_of sign }
@@ -437,11 +322,23 @@ pub fn text_of(sign: Written) -> &'static str
 }
 
 /// The word or sign of the grammar with this text.
+#[tactic(auto, using(crate::proofs::LikelyWords::written_by, crate::proofs::LikelyWords::unwritten))]
 fn written_of(text: &str) -> Option<Written>
     ensures { result ≡ written_of text.now }
 {
-    let index = find(&words(), text)?;
-    Some(all()[index])
+    let likely = likely(text);
+    if text_of(likely) == text {
+        Some(likely)
+    } else {
+        None
+    }
+}
+
+/// Whether the text may be a keyword of some edition: each keyword may be one.
+fn may_be_keyword(text: &str) -> bool
+    ensures { (edition : Edition) → words.class_of edition text.now ≡ class.Keyword → result ≡ true }
+{
+    text_of(likely(text)) == text || may_be_other(text)
 }
 
 fn weak_of(text: &str) -> Option<Weak>
@@ -459,7 +356,10 @@ fn is_name(token: &Token) -> bool
     ensures { result ≡ is_name token.now }
 {
     match &token.kind {
-        TokenKind::Ident { name, raw } => *raw || keyword_in(token.edition, name) != Class::Keyword,
+        TokenKind::Ident { name, raw } => {
+            *raw || !may_be_keyword(name.as_str())
+                || keyword_in(token.edition, name) != Class::Keyword
+        }
         _ => false,
     }
 }

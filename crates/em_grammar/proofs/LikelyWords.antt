@@ -1,0 +1,286 @@
+-- The tables of likely words have each word of the grammar, and each other keyword, at its own number.
+use Rattle.std.proofs.Common.{◌≡◌, ℕ, ◌+◌, ◌-◌, ◌*◌, ◌%◌, ◌<◌, ◌≤◌, Bool, true, false, ◌&&◌, ◌||◌, if◌then◌else◌, List, [], ◌∷◌, length, get_or, refl, sym, ap, ◌∙◌, subst, arith, inl, inr, ◌⊎◌, Option, Some, None, is_some, ◌==◌, nat_lt, nat_le}
+use Rattle.std.proofs.lemmas.Bool.{cases_Bool, ltb-true, leb-true}
+use Rattle.std.specs.Str.{bytes_eq}
+use Rattle.std.specs.Cmp.Lexicographic.{bytes_decides}
+use Rattle.em_base.specs.declared.edition.Edition.{Edition}
+use Rattle.em_base.specs.declared.edition.Edition.TheVariants.{E2015, E2018, E2021}
+use Rattle.em_base.specs.declared.words.Class.{Class}
+use Rattle.em_base.specs.declared.words.Class.TheVariants as class
+use Rattle.em_base.specs.Words.{is_among, always, from_2018, class_of_new, class_of}
+use Rattle.em_grammar.specs.declared.sort.Written.{Written}
+use Rattle.em_grammar.specs.declared.sort.Written.TheVariants as w
+use Rattle.em_grammar.specs.declared.likely.TheConstants.{LIKELY, OTHERS}
+use Rattle.em_grammar.specs.Sorts.{text_of, written_of, the_written}
+use Rattle.em_grammar.specs.Sets.{all}
+use Rattle.em_grammar.specs.Likely.{number_of, others}
+use Rattle.em_grammar.proofs.Sorts.{written_is_so, finds_so}
+use Rattle.em_grammar.proofs.AllSorts.{and-left, and-right}
+
+-- ---- the words and signs of the grammar
+
+short : (x : Written) → (0 < length (text_of x)) × (length (text_of x) ≤ 8)
+short w.Not = (omega arith, omega arith)
+short w.Ne = (omega arith, omega arith)
+short w.Pound = (omega arith, omega arith)
+short w.Dollar = (omega arith, omega arith)
+short w.Percent = (omega arith, omega arith)
+short w.PercentEq = (omega arith, omega arith)
+short w.And = (omega arith, omega arith)
+short w.AndAnd = (omega arith, omega arith)
+short w.AndEq = (omega arith, omega arith)
+short w.OpenParen = (omega arith, omega arith)
+short w.CloseParen = (omega arith, omega arith)
+short w.Star = (omega arith, omega arith)
+short w.StarEq = (omega arith, omega arith)
+short w.Plus = (omega arith, omega arith)
+short w.PlusEq = (omega arith, omega arith)
+short w.Comma = (omega arith, omega arith)
+short w.Minus = (omega arith, omega arith)
+short w.MinusEq = (omega arith, omega arith)
+short w.RArrow = (omega arith, omega arith)
+short w.Dot = (omega arith, omega arith)
+short w.DotDot = (omega arith, omega arith)
+short w.DotDotDot = (omega arith, omega arith)
+short w.DotDotEq = (omega arith, omega arith)
+short w.Slash = (omega arith, omega arith)
+short w.SlashEq = (omega arith, omega arith)
+short w.Colon = (omega arith, omega arith)
+short w.PathSep = (omega arith, omega arith)
+short w.Semi = (omega arith, omega arith)
+short w.Lt = (omega arith, omega arith)
+short w.LArrow = (omega arith, omega arith)
+short w.Shl = (omega arith, omega arith)
+short w.ShlEq = (omega arith, omega arith)
+short w.Le = (omega arith, omega arith)
+short w.Eq = (omega arith, omega arith)
+short w.EqEq = (omega arith, omega arith)
+short w.FatArrow = (omega arith, omega arith)
+short w.Gt = (omega arith, omega arith)
+short w.Ge = (omega arith, omega arith)
+short w.Shr = (omega arith, omega arith)
+short w.ShrEq = (omega arith, omega arith)
+short w.Question = (omega arith, omega arith)
+short w.At = (omega arith, omega arith)
+short w.SelfType = (omega arith, omega arith)
+short w.OpenBracket = (omega arith, omega arith)
+short w.CloseBracket = (omega arith, omega arith)
+short w.Caret = (omega arith, omega arith)
+short w.CaretEq = (omega arith, omega arith)
+short w.Underscore = (omega arith, omega arith)
+short w.As = (omega arith, omega arith)
+short w.Break = (omega arith, omega arith)
+short w.Const = (omega arith, omega arith)
+short w.Continue = (omega arith, omega arith)
+short w.Crate = (omega arith, omega arith)
+short w.Else = (omega arith, omega arith)
+short w.Enum = (omega arith, omega arith)
+short w.Extern = (omega arith, omega arith)
+short w.False = (omega arith, omega arith)
+short w.Fn = (omega arith, omega arith)
+short w.For = (omega arith, omega arith)
+short w.If = (omega arith, omega arith)
+short w.Impl = (omega arith, omega arith)
+short w.In = (omega arith, omega arith)
+short w.Let = (omega arith, omega arith)
+short w.Loop = (omega arith, omega arith)
+short w.Match = (omega arith, omega arith)
+short w.Mod = (omega arith, omega arith)
+short w.Move = (omega arith, omega arith)
+short w.Mut = (omega arith, omega arith)
+short w.Pub = (omega arith, omega arith)
+short w.Ref = (omega arith, omega arith)
+short w.Return = (omega arith, omega arith)
+short w.SelfValue = (omega arith, omega arith)
+short w.Static = (omega arith, omega arith)
+short w.Struct = (omega arith, omega arith)
+short w.Super = (omega arith, omega arith)
+short w.Trait = (omega arith, omega arith)
+short w.True = (omega arith, omega arith)
+short w.Type = (omega arith, omega arith)
+short w.Unsafe = (omega arith, omega arith)
+short w.Use = (omega arith, omega arith)
+short w.Where = (omega arith, omega arith)
+short w.While = (omega arith, omega arith)
+short w.OpenBrace = (omega arith, omega arith)
+short w.Or = (omega arith, omega arith)
+short w.OrEq = (omega arith, omega arith)
+short w.OrOr = (omega arith, omega arith)
+short w.CloseBrace = (omega arith, omega arith)
+short w.Tilde = (omega arith, omega arith)
+
+found : (x : Written) → get_or LIKELY (number_of (text_of x) % 256) w.Not ≡ x
+unfolding number_of
+found w.Not = refl
+found w.Ne = refl
+found w.Pound = refl
+found w.Dollar = refl
+found w.Percent = refl
+found w.PercentEq = refl
+found w.And = refl
+found w.AndAnd = refl
+found w.AndEq = refl
+found w.OpenParen = refl
+found w.CloseParen = refl
+found w.Star = refl
+found w.StarEq = refl
+found w.Plus = refl
+found w.PlusEq = refl
+found w.Comma = refl
+found w.Minus = refl
+found w.MinusEq = refl
+found w.RArrow = refl
+found w.Dot = refl
+found w.DotDot = refl
+found w.DotDotDot = refl
+found w.DotDotEq = refl
+found w.Slash = refl
+found w.SlashEq = refl
+found w.Colon = refl
+found w.PathSep = refl
+found w.Semi = refl
+found w.Lt = refl
+found w.LArrow = refl
+found w.Shl = refl
+found w.ShlEq = refl
+found w.Le = refl
+found w.Eq = refl
+found w.EqEq = refl
+found w.FatArrow = refl
+found w.Gt = refl
+found w.Ge = refl
+found w.Shr = refl
+found w.ShrEq = refl
+found w.Question = refl
+found w.At = refl
+found w.SelfType = refl
+found w.OpenBracket = refl
+found w.CloseBracket = refl
+found w.Caret = refl
+found w.CaretEq = refl
+found w.Underscore = refl
+found w.As = refl
+found w.Break = refl
+found w.Const = refl
+found w.Continue = refl
+found w.Crate = refl
+found w.Else = refl
+found w.Enum = refl
+found w.Extern = refl
+found w.False = refl
+found w.Fn = refl
+found w.For = refl
+found w.If = refl
+found w.Impl = refl
+found w.In = refl
+found w.Let = refl
+found w.Loop = refl
+found w.Match = refl
+found w.Mod = refl
+found w.Move = refl
+found w.Mut = refl
+found w.Pub = refl
+found w.Ref = refl
+found w.Return = refl
+found w.SelfValue = refl
+found w.Static = refl
+found w.Struct = refl
+found w.Super = refl
+found w.Trait = refl
+found w.True = refl
+found w.Type = refl
+found w.Unsafe = refl
+found w.Use = refl
+found w.Where = refl
+found w.While = refl
+found w.OpenBrace = refl
+found w.Or = refl
+found w.OrEq = refl
+found w.OrOr = refl
+found w.CloseBrace = refl
+found w.Tilde = refl
+
+pub is_found : (text : List ℕ) (x : Written) → text_of x ≡ text → get_or LIKELY (number_of text % 256) w.Not ≡ x
+is_found text x h = subst (λ t. get_or LIKELY (number_of t % 256) w.Not ≡ x) h (found x)
+
+pub is_short : (text : List ℕ) (x : Written) → text_of x ≡ text → (0 < length text) × (length text ≤ 8)
+is_short text x h = subst (λ t. (0 < length t) × (length t ≤ 8)) h (short x)
+
+pub written_by : (text : List ℕ) (x : Written) → bytes_eq (text_of x) text ≡ true → written_of text ≡ Some x
+written_by text x h = finds_so text x ((bytes_decides (text_of x) text).0 h)
+
+false_true : true ≡ false → ⊥
+false_true h = cc
+
+pub unwritten : (text : List ℕ) (x : Written) → ((y : Written) → text_of y ≡ text → x ≡ y) → bytes_eq (text_of x) text ≡ false → written_of text ≡ None
+unwritten text x only h = go (written_of text) refl
+  where
+    go : (m : Option Written) → written_of text ≡ m → m ≡ None
+    go None is = refl
+    go (Some y) is =
+        let so : text_of y ≡ text = written_is_so text y is in
+        let same : x ≡ y = only y so in
+        let yes : bytes_eq (text_of x) text ≡ true = (bytes_decides (text_of x) text).1 (ap text_of same ∙ so) in
+        absurd (false_true (sym yes ∙ h))
+
+-- ---- other keywords
+
+among : (f : List ℕ → Bool) (list : List (List ℕ)) (text : List ℕ) → is_among list text ≡ true → all f list ≡ true → f text ≡ true
+among f [] text h every = cc
+among f (x ∷ xs) text h every =
+    elim (cases_Bool (bytes_eq x text)) [
+      | inl same ↦ subst (λ t. f t ≡ true) ((bytes_decides x text).0 same) (and-left (f x) (all f xs) every)
+      | inr other ↦ among f xs text (sym (ap (λ b. b || is_among xs text) other) ∙ h) (and-right (f x) (all f xs) every)
+    ]
+
+abbrev is_other : List ℕ → Bool
+is_other text = get_or OTHERS (number_of text % 38) 0 == number_of text
+
+abbrev fits : List ℕ → Bool
+fits text = nat_lt 0 (length text) && nat_le (length text) 8
+
+every_other : all is_other others ≡ true
+unfolding number_of
+every_other = refl
+
+pub others_found : (text : List ℕ) → is_among others text ≡ true → (get_or OTHERS (number_of text % 38) 0 == number_of text) ≡ true
+others_found text h = among is_other others text h every_other
+
+pub others_short : (text : List ℕ) → is_among others text ≡ true → (0 < length text) × (length text ≤ 8)
+others_short text h =
+    let is : fits text ≡ true = among fits others text h refl in
+    let some : nat_lt 0 (length text) ≡ true = and-left (nat_lt 0 (length text)) (nat_le (length text) 8) is in
+    let few : nat_le (length text) 8 ≡ true = and-right (nat_lt 0 (length text)) (nat_le (length text) 8) is in
+    (ltb-true 0 (length text) some, leb-true (length text) 8 few)
+
+-- ---- keywords
+
+abbrev listed : List ℕ → Bool
+listed text = is_some (written_of text) || is_among others text
+
+always_listed : all listed always ≡ true
+unfolding written_of
+always_listed = refl
+
+new_listed : all listed from_2018 ≡ true
+unfolding written_of
+new_listed = refl
+
+is_listed : (edition : Edition) (text : List ℕ) → class_of edition text ≡ class.Keyword → listed text ≡ true
+unfolding class_of
+is_listed edition text h =
+    elim (cases_Bool (is_among always text)) [
+      | inl in-all ↦ among listed always text in-all always_listed
+      | inr later ↦
+          elim (cases_Bool (is_among from_2018 text)) [
+            | inl new ↦ among listed from_2018 text new new_listed
+            | inr none ↦ absurd (no_keyword (sym (ap (λ b. if b then class.Keyword else (if is_among from_2018 text then class_of_new edition text else class.Ident)) later ∙ ap (λ b. if b then class_of_new edition text else class.Ident) none) ∙ h))
+          ]
+    ]
+  where
+    no_keyword : class.Ident ≡ class.Keyword → ⊥
+    no_keyword h = cc
+
+pub keyword_may_be : (edition : Edition) (text : List ℕ) (x : Written) (may : Bool) → ((y : Written) → text_of y ≡ text → x ≡ y) → (is_among others text ≡ true → may ≡ true)
+    → bytes_eq (text_of x) text ≡ false → class_of edition text ≡ class.Keyword → may ≡ true
+keyword_may_be edition text x may only other h key = other (sym (ap (λ m. is_some m || is_among others text) (unwritten text x only h)) ∙ is_listed edition text key)
