@@ -1,6 +1,7 @@
 pub mod Sorts
 pub mod AllSorts
 pub mod LikelyWords
+pub mod WeakWords
 pub mod Pairs
 pub mod Lists
 pub mod Forms

@@ -1,19 +1,17 @@
--- The tables of likely words have each word of the grammar, and each other keyword, at its own number.
-use Rattle.std.proofs.Common.{◌≡◌, ℕ, ◌+◌, ◌-◌, ◌*◌, ◌%◌, ◌<◌, ◌≤◌, Bool, true, false, ◌&&◌, ◌||◌, if◌then◌else◌, List, [], ◌∷◌, length, get_or, refl, sym, ap, ◌∙◌, subst, arith, inl, inr, ◌⊎◌, Option, Some, None, is_some, ◌==◌, nat_lt, nat_le}
+-- The tables have each word of the grammar, and each keyword, at its own number.
+use Rattle.std.proofs.Common.{◌≡◌, ℕ, ◌%◌, ◌<◌, ◌≤◌, Bool, true, false, ◌&&◌, ◌||◌, if◌then◌else◌, List, [], ◌∷◌, length, get_or, refl, sym, ap, ◌∙◌, subst, arith, inl, inr, Option, Some, None, ◌==◌, nat_lt, nat_le}
 use Rattle.std.proofs.lemmas.Bool.{cases_Bool, ltb-true, leb-true}
 use Rattle.std.specs.Str.{bytes_eq}
 use Rattle.std.specs.Cmp.Lexicographic.{bytes_decides}
 use Rattle.em_base.specs.declared.edition.Edition.{Edition}
-use Rattle.em_base.specs.declared.edition.Edition.TheVariants.{E2015, E2018, E2021}
-use Rattle.em_base.specs.declared.words.Class.{Class}
 use Rattle.em_base.specs.declared.words.Class.TheVariants as class
 use Rattle.em_base.specs.Words.{is_among, always, from_2018, class_of_new, class_of}
 use Rattle.em_grammar.specs.declared.sort.Written.{Written}
 use Rattle.em_grammar.specs.declared.sort.Written.TheVariants as w
-use Rattle.em_grammar.specs.declared.likely.TheConstants.{LIKELY, OTHERS}
-use Rattle.em_grammar.specs.Sorts.{text_of, written_of, the_written}
+use Rattle.em_grammar.specs.declared.likely.TheConstants.{LIKELY, NUMBERS, KEYWORDS}
+use Rattle.em_grammar.specs.Sorts.{text_of, written_of}
 use Rattle.em_grammar.specs.Sets.{all}
-use Rattle.em_grammar.specs.Likely.{number_of, others}
+use Rattle.em_grammar.specs.Likely.{number_of, mark_of}
 use Rattle.em_grammar.proofs.Sorts.{written_is_so, finds_so}
 use Rattle.em_grammar.proofs.AllSorts.{and-left, and-right}
 
@@ -203,6 +201,100 @@ found w.Tilde = refl
 pub is_found : (text : List ℕ) (x : Written) → text_of x ≡ text → get_or LIKELY (number_of text % 256) w.Not ≡ x
 is_found text x h = subst (λ t. get_or LIKELY (number_of t % 256) w.Not ≡ x) h (found x)
 
+numbered : (x : Written) → get_or NUMBERS (number_of (text_of x) % 256) 0 ≡ number_of (text_of x)
+unfolding number_of
+numbered w.Not = refl
+numbered w.Ne = refl
+numbered w.Pound = refl
+numbered w.Dollar = refl
+numbered w.Percent = refl
+numbered w.PercentEq = refl
+numbered w.And = refl
+numbered w.AndAnd = refl
+numbered w.AndEq = refl
+numbered w.OpenParen = refl
+numbered w.CloseParen = refl
+numbered w.Star = refl
+numbered w.StarEq = refl
+numbered w.Plus = refl
+numbered w.PlusEq = refl
+numbered w.Comma = refl
+numbered w.Minus = refl
+numbered w.MinusEq = refl
+numbered w.RArrow = refl
+numbered w.Dot = refl
+numbered w.DotDot = refl
+numbered w.DotDotDot = refl
+numbered w.DotDotEq = refl
+numbered w.Slash = refl
+numbered w.SlashEq = refl
+numbered w.Colon = refl
+numbered w.PathSep = refl
+numbered w.Semi = refl
+numbered w.Lt = refl
+numbered w.LArrow = refl
+numbered w.Shl = refl
+numbered w.ShlEq = refl
+numbered w.Le = refl
+numbered w.Eq = refl
+numbered w.EqEq = refl
+numbered w.FatArrow = refl
+numbered w.Gt = refl
+numbered w.Ge = refl
+numbered w.Shr = refl
+numbered w.ShrEq = refl
+numbered w.Question = refl
+numbered w.At = refl
+numbered w.SelfType = refl
+numbered w.OpenBracket = refl
+numbered w.CloseBracket = refl
+numbered w.Caret = refl
+numbered w.CaretEq = refl
+numbered w.Underscore = refl
+numbered w.As = refl
+numbered w.Break = refl
+numbered w.Const = refl
+numbered w.Continue = refl
+numbered w.Crate = refl
+numbered w.Else = refl
+numbered w.Enum = refl
+numbered w.Extern = refl
+numbered w.False = refl
+numbered w.Fn = refl
+numbered w.For = refl
+numbered w.If = refl
+numbered w.Impl = refl
+numbered w.In = refl
+numbered w.Let = refl
+numbered w.Loop = refl
+numbered w.Match = refl
+numbered w.Mod = refl
+numbered w.Move = refl
+numbered w.Mut = refl
+numbered w.Pub = refl
+numbered w.Ref = refl
+numbered w.Return = refl
+numbered w.SelfValue = refl
+numbered w.Static = refl
+numbered w.Struct = refl
+numbered w.Super = refl
+numbered w.Trait = refl
+numbered w.True = refl
+numbered w.Type = refl
+numbered w.Unsafe = refl
+numbered w.Use = refl
+numbered w.Where = refl
+numbered w.While = refl
+numbered w.OpenBrace = refl
+numbered w.Or = refl
+numbered w.OrEq = refl
+numbered w.OrOr = refl
+numbered w.CloseBrace = refl
+numbered w.Tilde = refl
+
+pub has_number : (text : List ℕ) (x : Written) → text_of x ≡ text → get_or NUMBERS (number_of text % 256) 0 ≡ number_of text
+has_number text x h = subst (λ t. get_or NUMBERS (number_of t % 256) 0 ≡ number_of t) h (numbered x)
+
 pub is_short : (text : List ℕ) (x : Written) → text_of x ≡ text → (0 < length text) × (length text ≤ 8)
 is_short text x h = subst (λ t. (0 < length t) × (length t ≤ 8)) h (short x)
 
@@ -212,18 +304,35 @@ written_by text x h = finds_so text x ((bytes_decides (text_of x) text).0 h)
 false_true : true ≡ false → ⊥
 false_true h = cc
 
-pub unwritten : (text : List ℕ) (x : Written) → ((y : Written) → text_of y ≡ text → x ≡ y) → bytes_eq (text_of x) text ≡ false → written_of text ≡ None
+-- what no word can be is none
+abbrev Only : List ℕ → Option Written → Type 0
+Only text m = (y : Written) → text_of y ≡ text → m ≡ Some y
+
+pub unlikely : (text : List ℕ) (m : Option Written) → Only text m → m ≡ None → written_of text ≡ None
+unlikely text m only none = go (written_of text) refl
+  where
+    no : (y : Written) → None ≡ Some y → ⊥
+    no y h = cc
+
+    go : (n : Option Written) → written_of text ≡ n → n ≡ None
+    go None is = refl
+    go (Some y) is = absurd (no y (sym none ∙ only y (written_is_so text y is)))
+
+pub unwritten : (text : List ℕ) (x : Written) → Only text (Some x) → bytes_eq (text_of x) text ≡ false → written_of text ≡ None
 unwritten text x only h = go (written_of text) refl
   where
-    go : (m : Option Written) → written_of text ≡ m → m ≡ None
+    inside : (y : Written) → Some x ≡ Some y → x ≡ y
+    inside y h = cc
+
+    go : (n : Option Written) → written_of text ≡ n → n ≡ None
     go None is = refl
     go (Some y) is =
         let so : text_of y ≡ text = written_is_so text y is in
-        let same : x ≡ y = only y so in
+        let same : x ≡ y = inside y (only y so) in
         let yes : bytes_eq (text_of x) text ≡ true = (bytes_decides (text_of x) text).1 (ap text_of same ∙ so) in
         absurd (false_true (sym yes ∙ h))
 
--- ---- other keywords
+-- ---- keywords
 
 among : (f : List ℕ → Bool) (list : List (List ℕ)) (text : List ℕ) → is_among list text ≡ true → all f list ≡ true → f text ≡ true
 among f [] text h every = cc
@@ -233,47 +342,21 @@ among f (x ∷ xs) text h every =
       | inr other ↦ among f xs text (sym (ap (λ b. b || is_among xs text) other) ∙ h) (and-right (f x) (all f xs) every)
     ]
 
-abbrev is_other : List ℕ → Bool
-is_other text = get_or OTHERS (number_of text % 38) 0 == number_of text
+abbrev has_mark : List ℕ → Bool
+has_mark text = get_or KEYWORDS (number_of text % 284) 0 == mark_of text
 
 abbrev fits : List ℕ → Bool
 fits text = nat_lt 0 (length text) && nat_le (length text) 8
 
-every_other : all is_other others ≡ true
-unfolding number_of
-every_other = refl
-
-pub others_found : (text : List ℕ) → is_among others text ≡ true → (get_or OTHERS (number_of text % 38) 0 == number_of text) ≡ true
-others_found text h = among is_other others text h every_other
-
-pub others_short : (text : List ℕ) → is_among others text ≡ true → (0 < length text) × (length text ≤ 8)
-others_short text h =
-    let is : fits text ≡ true = among fits others text h refl in
-    let some : nat_lt 0 (length text) ≡ true = and-left (nat_lt 0 (length text)) (nat_le (length text) 8) is in
-    let few : nat_le (length text) 8 ≡ true = and-right (nat_lt 0 (length text)) (nat_le (length text) 8) is in
-    (ltb-true 0 (length text) some, leb-true (length text) 8 few)
-
--- ---- keywords
-
-abbrev listed : List ℕ → Bool
-listed text = is_some (written_of text) || is_among others text
-
-always_listed : all listed always ≡ true
-unfolding written_of
-always_listed = refl
-
-new_listed : all listed from_2018 ≡ true
-unfolding written_of
-new_listed = refl
-
-is_listed : (edition : Edition) (text : List ℕ) → class_of edition text ≡ class.Keyword → listed text ≡ true
+-- what holds of each keyword of any edition
+of_keywords : (f : List ℕ → Bool) → all f always ≡ true → all f from_2018 ≡ true → (edition : Edition) (text : List ℕ) → class_of edition text ≡ class.Keyword → f text ≡ true
 unfolding class_of
-is_listed edition text h =
+of_keywords f each new edition text h =
     elim (cases_Bool (is_among always text)) [
-      | inl in-all ↦ among listed always text in-all always_listed
+      | inl in-all ↦ among f always text in-all each
       | inr later ↦
           elim (cases_Bool (is_among from_2018 text)) [
-            | inl new ↦ among listed from_2018 text new new_listed
+            | inl since ↦ among f from_2018 text since new
             | inr none ↦ absurd (no_keyword (sym (ap (λ b. if b then class.Keyword else (if is_among from_2018 text then class_of_new edition text else class.Ident)) later ∙ ap (λ b. if b then class_of_new edition text else class.Ident) none) ∙ h))
           ]
     ]
@@ -281,6 +364,20 @@ is_listed edition text h =
     no_keyword : class.Ident ≡ class.Keyword → ⊥
     no_keyword h = cc
 
-pub keyword_may_be : (edition : Edition) (text : List ℕ) (x : Written) (may : Bool) → ((y : Written) → text_of y ≡ text → x ≡ y) → (is_among others text ≡ true → may ≡ true)
-    → bytes_eq (text_of x) text ≡ false → class_of edition text ≡ class.Keyword → may ≡ true
-keyword_may_be edition text x may only other h key = other (sym (ap (λ m. is_some m || is_among others text) (unwritten text x only h)) ∙ is_listed edition text key)
+always_marked : all has_mark always ≡ true
+unfolding number_of mark_of
+always_marked = refl
+
+new_marked : all has_mark from_2018 ≡ true
+unfolding number_of mark_of
+new_marked = refl
+
+pub keyword_found : (edition : Edition) (text : List ℕ) → class_of edition text ≡ class.Keyword → (get_or KEYWORDS (number_of text % 284) 0 == mark_of text) ≡ true
+keyword_found edition text h = of_keywords has_mark always_marked new_marked edition text h
+
+pub keyword_short : (edition : Edition) (text : List ℕ) → class_of edition text ≡ class.Keyword → (0 < length text) × (length text ≤ 8)
+keyword_short edition text h =
+    let is : fits text ≡ true = of_keywords fits refl refl edition text h in
+    let some : nat_lt 0 (length text) ≡ true = and-left (nat_lt 0 (length text)) (nat_le (length text) 8) is in
+    let few : nat_le (length text) 8 ≡ true = and-right (nat_lt 0 (length text)) (nat_le (length text) 8) is in
+    (ltb-true 0 (length text) some, leb-true (length text) 8 few)

@@ -1,5 +1,5 @@
 -- A token is a word or sign exactly where it is spelled so.
-use Rattle.std.proofs.Common.{◌≡◌, Bool, true, false, refl, sym, ap, ◌∙◌, subst, inl, inr, List, ℕ, Option, Some, None}
+use Rattle.std.proofs.Common.{◌≡◌, false, refl, sym, ap, ◌∙◌, inl, inr, List, ℕ, length, Option, Some, None}
 use Rattle.std.proofs.lemmas.Bool.{cases_Bool}
 use Rattle.std.specs.Str.{bytes_eq}
 use Rattle.std.specs.Cmp.Lexicographic.{bytes_decides}
@@ -38,3 +38,10 @@ spelled_sign x t s h = ap (λ o. only x (sort_by o (class_of t))) h ∙ named x 
 pub no_sign : (x : Written) (t : Token) → spelling t ≡ None → is_sign x t ≡ false
 unfolding sort_of
 no_sign x t h = ap (λ o. only x (sort_by o (class_of t))) h
+
+pub lengths_apart : (a b : List ℕ) → (length a ≡ length b → ⊥) → bytes_eq a b ≡ false
+lengths_apart a b h =
+    elim (cases_Bool (bytes_eq a b)) [
+      | inl same ↦ absurd (h (ap length ((bytes_decides a b).0 same)))
+      | inr other ↦ other
+    ]

@@ -1,16 +1,20 @@
 //! Which one word a text can be, by a number that tells the words apart.
 
-ghost use Rattle.std.specs.Prelude.{◌≡◌, ◌↔◌, ◌<◌, ◌≤◌, true, length, get_or, IsTrue};
-ghost use Rattle.em_base.specs.Words.{is_among};
-ghost use Rattle.em_grammar.specs.Sorts.{text_of};
+ghost use Rattle.std.specs.Prelude.{◌≡◌, ◌↔◌, ◌<◌, ◌≤◌, true, length, get_or, IsTrue, Some};
+ghost use Rattle.std.specs.Str.{bytes_eq};
+ghost use Rattle.em_base.specs.declared.edition.Edition.{Edition};
+ghost use Rattle.em_base.specs.declared.words.Class.TheVariants as class;
+ghost use Rattle.em_base.specs.Words as words;
+ghost use Rattle.em_grammar.specs.Sorts.{text_of, weak_of};
+ghost use Rattle.em_grammar.specs.declared.sort.Weak.{Weak};
 ghost use Rattle.em_grammar.specs.declared.sort.Written.{Written};
-ghost use Rattle.em_grammar.specs.Likely.{number_of, others};
+ghost use Rattle.em_grammar.specs.Likely.{number_of};
 
 use crate::sort::Written as W;
 
 const NO: W = W::Not;
 
-/// The one word or sign that a text can be, by the rest of its number by 256; `!` where there is none.
+/// The words and signs of the grammar, each at the rest of its number by 256; `!` where there is none.
 #[rattlefmt::skip]
 static LIKELY: [W; 256] = [
     NO, NO, NO, NO, W::Star, W::Crate, W::DotDotEq, NO, NO, W::Struct, NO, NO, NO, NO, NO, W::Const, NO, NO, W::Le,
@@ -30,11 +34,36 @@ static LIKELY: [W; 256] = [
     W::Question, NO, NO, NO, NO, NO, NO,
 ];
 
-/// The numbers of the keywords that the grammar doesn't write out, each at the number's rest by 38.
+/// The number of each of these, at the same place, and 0 where there is none.
 #[rattlefmt::skip]
-static OTHERS: [usize; 38] = [
-    0, 0, 18128, 0, 0, 0, 0, 16005, 0, 0, 15704, 0, 0, 16695, 17532, 0, 0, 0, 10126, 0, 17652,
-    0, 0, 0, 0, 17163, 18760, 0, 0, 16711, 17472, 17853, 16828, 16867, 0, 0, 16718, 17213,
+static NUMBERS: [usize; 256] = [
+    0, 0, 0, 0, 4100, 15621, 8710, 0, 0, 18185, 0, 0, 0, 0, 0, 16911, 0, 0, 5906, 0, 5652, 0, 12054, 0, 0, 9241,
+    0, 0, 0, 0, 0, 3615, 0, 0, 0, 0, 0, 0, 0, 4391, 0, 17193, 0, 0, 0, 0, 5678, 16943, 12080, 0, 17202, 17971,
+    0, 0, 0, 5943, 0, 0, 0, 0, 0, 0, 0, 0, 0, 0, 3906, 17219, 17220, 0, 0, 0, 0, 0, 0, 0, 0, 17485, 0, 0, 0,
+    5969, 0, 0, 0, 17493, 16470, 9047, 0, 10073, 6234, 0, 0, 3421, 0, 16479, 0, 4961, 0, 0, 0, 4197, 0, 0, 0,
+    4457, 0, 0, 0, 4205, 0, 0, 8048, 0, 0, 6003, 0, 5749, 18038, 12151, 9592, 0, 17786, 0, 0, 0, 0, 0, 3712, 0,
+    16002, 4995, 7300, 0, 0, 0, 4488, 0, 0, 0, 0, 0, 0, 0, 6032, 17297, 0, 0, 0, 8853, 0, 10135, 6040, 0, 3738,
+    3227, 0, 0, 17566, 0, 0, 16801, 4514, 4003, 4772, 0, 0, 10407, 4520, 0, 0, 0, 0, 0, 0, 0, 0, 15281, 6066, 0,
+    0, 11957, 0, 0, 9144, 17849, 0, 0, 0, 0, 3518, 0, 0, 0, 0, 0, 0, 17861, 4294, 0, 0, 0, 17866, 16587, 0, 0,
+    0, 0, 16848, 17361, 9938, 0, 0, 0, 5846, 17111, 12248, 16345, 16346, 0, 0, 0, 0, 5087, 17376, 17121, 0,
+    4835, 0, 0, 0, 0, 0, 4585, 10218, 0, 0, 0, 0, 0, 5872, 0, 5362, 0, 0, 0, 9718, 0, 0, 6137, 0, 0, 0, 0, 0, 0,
+];
+
+/// The keywords of all editions, each as its number times 256 and its second byte, at the number's rest by 284; 0 where
+/// there is none.
+#[rattlefmt::skip]
+static KEYWORDS: [usize; 284] = [
+    0, 3999090, 0, 0, 0, 0, 0, 4218735, 0, 4655476, 0, 0, 0, 0, 0, 0, 4802674, 0, 0, 0, 0, 0, 0, 0, 0, 0, 0, 0,
+    0, 0, 0, 0, 0, 0, 0, 0, 0, 4444520, 0, 0, 0, 0, 0, 0, 4519033, 4301164, 0, 0, 0, 0, 0, 0, 4448367, 0, 0, 0,
+    0, 0, 0, 0, 0, 0, 0, 0, 0, 0, 0, 0, 0, 0, 0, 4380525, 4308073, 0, 0, 0, 0, 0, 0, 4600693, 0, 4383080, 0, 0,
+    4020325, 0, 0, 0, 0, 0, 0, 0, 4313189, 0, 0, 0, 0, 0, 4096626, 0, 0, 4097399, 0, 0, 0, 0, 0, 0, 0, 0, 0,
+    4318067, 0, 0, 0, 4246388, 0, 0, 0, 0, 0, 0, 0, 4393826, 0, 0, 0, 0, 0, 0, 0, 0, 0, 2578803, 0, 0, 0, 0, 0,
+    0, 0, 0, 0, 0, 0, 0, 4617829, 0, 4472946, 0, 0, 0, 0, 4401518, 0, 4329327, 0, 4184431, 4184693, 0, 0,
+    4476271, 4403826, 0, 0, 0, 0, 0, 0, 4478305, 0, 0, 0, 4406633, 0, 0, 0, 0, 4553317, 4408184, 4408431, 0, 0,
+    2664302, 0, 0, 2592367, 4337523, 0, 0, 0, 0, 0, 0, 0, 2594662, 0, 0, 0, 0, 0, 0, 0, 0, 0, 0, 0, 0, 4488303,
+    0, 0, 0, 0, 0, 0, 0, 0, 0, 0, 0, 0, 0, 0, 4274038, 0, 0, 0, 0, 0, 3912037, 0, 0, 0, 0, 0, 0, 4640873, 0, 0,
+    4278113, 0, 4569461, 4497017, 0, 0, 4570478, 4279929, 0, 0, 0, 0, 0, 0, 4572526, 0, 0, 0, 4428133, 4573810,
+    0, 0, 0, 0, 0, 0, 0, 0, 0, 0, 0, 0, 0, 0, 0, 0, 0, 0, 0, 2615918, 0, 0, 0, 4216417, 0,
 ];
 
 /// The byte, or 0 behind the end.
@@ -48,10 +77,11 @@ fn byte_at(text: &[u8], index: usize) -> usize
     }
 }
 
-/// A number that no two words and signs of the grammar have in common, nor two other keywords.
+/// A number that no two words and signs of the grammar have in common.
 fn number_of(text: &[u8]) -> usize
     requires { (0 < length text.now) × (length text.now ≤ 8) }
-    ensures { result ≡ number_of text.now }
+    ensures is { result ≡ number_of text.now }
+    ensures small { result < 65536 }
 {
     let last = byte_at(text, text.len() - 1);
     byte_at(text, 0) * 63 + byte_at(text, 2) * 60 + last * 34 + text.len() * 26
@@ -64,24 +94,46 @@ fn is_short(text: &str) -> bool
     !text.is_empty() && text.len() <= 8
 }
 
-/// The word or sign of the grammar that the text is, and any where it is none.
-pub fn likely(text: &str) -> W
-    ensures { (x : Written) → text_of x ≡ text.now → result ≡ x }
+/// The only word or sign of the grammar that the text can be.
+pub fn likely(text: &str) -> Option<W>
+    ensures { (x : Written) → text_of x ≡ text.now → result ≡ Some x }
 {
-    if is_short(text) {
-        LIKELY[number_of(text.as_bytes()) % 256]
+    if !is_short(text) {
+        return None;
+    }
+    let number = number_of(text.as_bytes());
+    if NUMBERS[number % 256] == number {
+        Some(LIKELY[number % 256])
     } else {
-        NO
+        None
     }
 }
 
-/// Whether the text may be a keyword that the grammar doesn't write out: each may be one, and few other texts.
-pub fn may_be_other(text: &str) -> bool
-    ensures { is_among others text.now ≡ true → result ≡ true }
+/// Whether the text may be a keyword of some edition: each keyword may be one, and few other texts.
+pub fn may_be_keyword(text: &str) -> bool
+    ensures { (edition : Edition) → words.class_of edition text.now ≡ class.Keyword → result ≡ true }
 {
     if !is_short(text) {
         return false;
     }
-    let number = number_of(text.as_bytes());
-    OTHERS[number % 38] == number
+    let bytes = text.as_bytes();
+    let number = number_of(bytes);
+    KEYWORDS[number % 284] == number * 256 + byte_at(bytes, 1)
+}
+
+/// Whether the texts are the same. Their bytes are read only where they are equally long.
+#[tactic(auto, using(crate::proofs::SameSign::lengths_apart))]
+pub fn is_same(wanted: &str, text: &str) -> bool
+    ensures { result ≡ bytes_eq wanted.now text.now }
+{
+    wanted.len() == text.len() && wanted == text
+}
+
+/// Whether the text is as long as a word that is a keyword in some places alone, and begins like one.
+#[tactic(auto, using(crate::proofs::WeakWords::weak_like))]
+pub fn may_be_weak(text: &str) -> bool
+    ensures { (x : Weak) → weak_of text.now ≡ Some x → result ≡ true }
+{
+    let first = byte_at(text.as_bytes(), 0);
+    (text.len() == 3 || text.len() == 11) && (first == 66 || first == 100 || first == 109)
 }

@@ -1,14 +1,11 @@
 //! What a token is to the grammar.
 
-ghost use Rattle.std.specs.Prelude.{◌≡◌, true};
-ghost use Rattle.em_base.specs.declared.edition.Edition.{Edition};
-ghost use Rattle.em_base.specs.declared.words.Class.TheVariants as class;
-ghost use Rattle.em_base.specs.Words as words;
+ghost use Rattle.std.specs.Prelude.{◌≡◌};
 ghost use Rattle.em_tree.specs.Starts.{is_name, is_literal, is_lifetime};
 ghost use Rattle.em_tree.specs.Tokens.{int_kind};
 ghost use Rattle.em_grammar.specs.Sorts.{text_of, written_of, weak_of, class_of, sort_of};
 
-use crate::likely::{likely, may_be_other};
+use crate::likely::{is_same, likely, may_be_keyword, may_be_weak};
 use em_base::{Class, Token, TokenKind, keyword_in};
 use em_tree::spelling;
 
@@ -322,28 +319,25 @@ pub fn text_of(sign: Written) -> &'static str
 }
 
 /// The word or sign of the grammar with this text.
-#[tactic(auto, using(crate::proofs::LikelyWords::written_by, crate::proofs::LikelyWords::unwritten))]
+#[tactic(auto, using(crate::proofs::LikelyWords::written_by, crate::proofs::LikelyWords::unwritten, crate::proofs::LikelyWords::unlikely))]
 fn written_of(text: &str) -> Option<Written>
     ensures { result ≡ written_of text.now }
 {
-    let likely = likely(text);
-    if text_of(likely) == text {
-        Some(likely)
+    let word = likely(text)?;
+    if is_same(text_of(word), text) {
+        Some(word)
     } else {
         None
     }
 }
 
-/// Whether the text may be a keyword of some edition: each keyword may be one.
-fn may_be_keyword(text: &str) -> bool
-    ensures { (edition : Edition) → words.class_of edition text.now ≡ class.Keyword → result ≡ true }
-{
-    text_of(likely(text)) == text || may_be_other(text)
-}
-
+#[tactic(auto, using(crate::proofs::WeakWords::no_weak))]
 fn weak_of(text: &str) -> Option<Weak>
     ensures { result ≡ weak_of text.now }
 {
+    if !may_be_weak(text) {
+        return None;
+    }
     match text {
         "Box" => Some(Weak::Box),
         "dyn" => Some(Weak::Dyn),

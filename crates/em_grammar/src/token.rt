@@ -2,10 +2,11 @@
 
 ghost use Rattle.std.specs.Prelude.{◌≡◌};
 ghost use Rattle.em_grammar.specs.Sets.{is_sign, int_sort, literal_sort, name_sort, weak_is, dyn_sort};
-ghost use Rattle.em_grammar.specs.PathReader.{root_sort};
+ghost use Rattle.em_grammar.specs.PathReader.{root_sort, segments_first, path_first};
 ghost use Rattle.em_grammar.specs.TypeReader.{dyn_follow_sort};
 ghost use Rattle.em_grammar.specs.Sorts.{sort_of};
 
+use crate::likely::{is_same, may_be_weak};
 use crate::sort::{Kind, Sort, Weak, Written, sort_of, text_of};
 use em_base::Token;
 use em_tree::spelling;
@@ -16,7 +17,7 @@ pub fn is_sign(sign: Written, token: &Token) -> bool
     ensures { result ≡ is_sign sign token.now }
 {
     match spelling(token) {
-        Some(text) => text_of(sign) == text,
+        Some(text) => is_same(text_of(sign), text),
         None => false,
     }
 }
@@ -68,8 +69,57 @@ pub fn is_root(token: &Token) -> bool
     }
 }
 
+/// Whether the segments of a path can begin with the token.
+pub fn is_segments_start(token: &Token) -> bool
+    ensures { result ≡ segments_first.token (sort_of token.now) }
+{
+    match sort_of(token) {
+        Sort::Weak(_, kind) => kind == Kind::Name,
+        Sort::Plain(kind) => kind == Kind::Name,
+        Sort::Written(word) => matches!(
+            word,
+            Written::Crate
+                | Written::SelfValue
+                | Written::Super
+                | Written::SelfType
+                | Written::Dollar
+                | Written::PathSep
+        ),
+    }
+}
+
+/// Whether a path can begin with the token.
+pub fn is_path_start(token: &Token) -> bool
+    ensures { result ≡ path_first.token (sort_of token.now) }
+{
+    match sort_of(token) {
+        Sort::Weak(_, kind) => kind == Kind::Name,
+        Sort::Plain(kind) => kind == Kind::Name,
+        Sort::Written(word) => matches!(
+            word,
+            Written::Crate
+                | Written::SelfValue
+                | Written::Super
+                | Written::SelfType
+                | Written::Dollar
+                | Written::PathSep
+                | Written::Lt
+        ),
+    }
+}
+
 /// Whether the token is spelled so, whether it is a name or not.
+#[tactic(auto, using(crate::proofs::WeakWords::no_weak_token, crate::proofs::WeakWords::unspelled))]
 pub fn is_weak(weak: Weak, token: &Token) -> bool
+    ensures { result ≡ weak_is weak (sort_of token.now) }
+{
+    match spelling(token) {
+        Some(text) => may_be_weak(text) && is_weak_sort(weak, token),
+        None => false,
+    }
+}
+
+fn is_weak_sort(weak: Weak, token: &Token) -> bool
     ensures { result ≡ weak_is weak (sort_of token.now) }
 {
     match sort_of(token) {

@@ -155,3 +155,5 @@ blank_start c h =
     by_test (is_start c ≡ false) (nat_lt c 128)
     (λ low. no_start c (grind (arith, nat_tests)) (grind (arith, nat_tests)))
     (λ high. far_start c (far c h (grind (arith, nat_tests))))
+
+pub ruleset ascii = (is_start-ascii, is_xid_continue-ascii)

@@ -12,7 +12,7 @@ use Rattle.em_lex.specs.Characters.{Chars}
 use Rattle.em_lex.specs.Lexing.{byte_len, tokens_of, IsText, Lexes}
 use Rattle.em_lex.specs.Walk.{LexesFrom, RefusedFrom, mark_len, RefusedText}
 use Rattle.em_lex.proofs.Base.{by_test}
-use Rattle.em_lex.proofs.WalkLemmas.{byte_len-append}
+use Rattle.em_lex.proofs.WalkLemmas.{byte_len-append, length-byte_len, byte_len-take}
 
 pub encodes-byte_len : (cs : Chars) → length (encode_utf8_all cs) ≡ byte_len cs
 encodes-byte_len [] = refl
@@ -62,3 +62,5 @@ text_encoded bytes cs u is = ap encode_utf8_all is ∙ encodes-chars bytes u
 
 pub text_bytes : (bytes cs : Chars) → IsUtf8 bytes → cs ≡ chars bytes → byte_len cs ≡ length bytes
 text_bytes bytes cs u is = sym (encodes-byte_len cs) ∙ ap (λ x. length x) (text_encoded bytes cs u is)
+
+pub ruleset encoded = (encodes-byte_len, length-byte_len, byte_len-take)

@@ -1,5 +1,6 @@
 -- The walk through a text, piece by piece.
-use Rattle.std.proofs.Common.{◌≡◌, ℕ, ◌+◌, ◌<◌, ◌≤◌, Bool, false, ◌||◌, List, [], ◌∷◌, ◌++◌, length, take, drop, refl, sym, ap, ◌∙◌, subst, arith, length-append, append_assoc, append-nil, take-append-drop, length-drop}
+use Rattle.std.proofs.Common.{◌≡◌, inl, inr, true, ◌==◌, slice_index, ℕ, ◌+◌, ◌<◌, ◌≤◌, Bool, false, ◌||◌, List, [], ◌∷◌, ◌++◌, length, take, drop, refl, sym, ap, ◌∙◌, subst, arith, length-append, append_assoc, append-nil, take-append-drop, length-drop}
+use Rattle.std.proofs.lemmas.Bool.{both_ways, eqb-true, or_cases}
 use Rattle.std.proofs.lemmas.List.{drop-drop}
 use Rattle.std.proofs.lemmas.List.Sums.{sum_by-append}
 use Rattle.std.proofs.lemmas.Str.{len_utf8_bounds}
@@ -11,14 +12,16 @@ use Rattle.em_lex.specs.declared.error.LexKind.{LexKind}
 use Rattle.em_lex.specs.declared.error.LexError.{LexError}
 use Rattle.em_lex.specs.declared.error.LexError.TheVariants.{NoMemory, At, Limit}
 use Rattle.em_lex.specs.declared.piece.Piece.{Piece}
+use Rattle.em_lex.specs.declared.piece.Piece.TheVariants.{Trivia}
 use Rattle.em_lex.specs.declared.lexer.Place.{Place}
-use Rattle.em_lex.specs.Characters.{Chars}
+use Rattle.em_lex.specs.Characters.{Chars, is_blank}
 use Rattle.em_lex.specs.Literals.{opening, closing}
 use Rattle.em_lex.specs.Faults.{Fault as Stands, unknown, comment, prefix, hash_r, hash_br, float, number, number_suffix, unclosed, literal_suffix, body, lifetime, First}
 use Rattle.em_lex.specs.Lexing.{Part, trivia, token, spelled, is_dot, PartAt, Tiles, byte_len, tokens_of}
 use Rattle.em_lex.specs.Scan.{step}
 use Rattle.em_lex.specs.Walk.{token_at, behind_trivia, behind_token, piece_within, Kept, FaultAt, RefusedAt, LexesFrom, RefusedFrom}
 use Rattle.em_lex.proofs.Base.{take_front, drop_front}
+use Rattle.em_lex.proofs.Heads.{step_blank}
 use Rattle.em_lex.proofs.LexingLemmas.{Found, part, fault, found, part_some}
 
 pub byte_len-cut : (n : ℕ) (cs : Chars) → byte_len (take n cs) + byte_len (drop n cs) ≡ byte_len cs
@@ -170,14 +173,11 @@ found_at e dot (c ∷ cs) piece some is = subst (Found e dot (c ∷ cs)) (sym is
 
 -- ---- in a loop over indices
 
-rest_some : (cs rest : Chars) (at : ℕ) → at < length cs → rest ≡ drop at cs → 0 < length rest
+pub rest_some : (cs rest : Chars) (at : ℕ) → at < length cs → rest ≡ drop at cs → 0 < length rest
 rest_some cs rest at h is = let l = ap (λ x. length x) is ∙ length-drop at cs in omega (arith, l, h)
 
 pub walk_found : (e : Edition) (place : Place) (cs rest : Chars) (at : ℕ) (piece : Piece) → at < length cs → rest ≡ drop at cs → piece ≡ step e place.dot rest → Found e place.dot rest piece
 walk_found e place cs rest at piece h is s = found_at e place.dot rest piece (rest_some cs rest at h is) s
-
-pub walk_within : (e : Edition) (place : Place) (cs rest : Chars) (at : ℕ) (piece : Piece) → at < length cs → rest ≡ drop at cs → piece ≡ step e place.dot rest → piece_within piece rest
-walk_within e place cs rest at piece h is s = found_within e place.dot rest piece (walk_found e place cs rest at piece h is s)
 
 pub record More (file : ℕ) (e : Edition) (offset : ℕ) (cs : Chars) (at : ℕ) (new : List Token) (next : Place) (len : ℕ) : Type 0 where
   pub far : SoFar file e offset cs new next (drop (at + len) cs)
@@ -206,3 +206,24 @@ pub walk_done : (file : ℕ) (e : Edition) (offset : ℕ) (cs : Chars) (at : ℕ
 walk_done file e offset cs at out place far h = so_far-done file e offset cs out place (drop at cs) far (let l = length-drop at cs in omega (arith, l, h))
 
 pub ruleset bytes = (length-byte_len, byte_len-take)
+
+pub step_within : (e : Edition) (dot : Bool) (rest : Chars) (piece : Piece) → 1 ≤ length rest → piece ≡ step e dot rest → piece_within piece rest
+step_within e dot rest piece some is = found_within e dot rest piece (found_at e dot rest piece some is)
+
+-- the piece of a space or a line's end
+pub blank_kept : (e : Edition) (old new : List Token) (place next : Place) (rest : Chars) (c : ℕ) → c ≡ slice_index rest 0 → (c == 32 || c == 10) ≡ true → new ≡ old → next ≡ behind_trivia place 1 false → Kept old new place (step e place.dot rest) rest next 1
+blank_kept e old new place next [] c is blank n b = absurd (both_ways _ (ap (λ x. x == 32 || x == 10) is) blank)
+blank_kept e old new place next (d ∷ cs) c is blank n b =
+    let same : (d == 32 || d == 10) ≡ true = ap (λ x. x == 32 || x == 10) (sym is) ∙ blank in
+    let one : byte_len (take 1 (d ∷ cs)) ≡ 1 = elim (or_cases (d == 32) (d == 10) same) [
+      | inl h ↦ ap (λ x. byte_len (x ∷ [])) (eqb-true d 32 h)
+      | inr h ↦ ap (λ x. byte_len (x ∷ [])) (eqb-true d 10 h)
+    ] in
+    let white : is_blank d ≡ true = elim (or_cases (d == 32) (d == 10) same) [
+      | inl h ↦ ap is_blank (eqb-true d 32 h)
+      | inr h ↦ ap is_blank (eqb-true d 10 h)
+    ] in
+    let kept : Kept old new place (Trivia 1 false) (d ∷ cs) next 1 = (n, b ∙ ap (λ k. behind_trivia place k false) (sym one), refl) in
+    subst (λ p. Kept old new place p (d ∷ cs) next 1) (sym (step_blank e place.dot d cs white)) kept
+
+pub ruleset blanks = (step_within, blank_kept)

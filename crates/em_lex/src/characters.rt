@@ -35,10 +35,26 @@ pub fn is_blank(c: char) -> bool
     )
 }
 
+#[tactic(auto, using(crate::proofs::Base::ascii))]
 pub fn is_start(c: char) -> bool
     ensures { result ≡ is_start c }
 {
-    c == '_' || is_xid_start(c)
+    if c.is_ascii() {
+        c == '_' || c.is_ascii_alphabetic()
+    } else {
+        c == '_' || is_xid_start(c)
+    }
+}
+
+#[tactic(auto, using(crate::proofs::Base::ascii))]
+fn is_continue(c: char) -> bool
+    ensures { result ≡ is_xid_continue c }
+{
+    if c.is_ascii() {
+        c.is_ascii_alphanumeric() || c == '_'
+    } else {
+        is_xid_continue(c)
+    }
 }
 
 /// Whether a word stands at the front.
@@ -55,7 +71,7 @@ fn continues(cs: &[char]) -> usize
     ensures value { result ≡ prefix_len is_xid_continue cs.now }
     ensures within { result ≤ length cs.now }
 {
-    cs.iter().take_while(|c| is_xid_continue(**c)).count()
+    cs.iter().take_while(|c| is_continue(**c)).count()
 }
 
 /// The length of the first character and those of words behind it.
@@ -85,9 +101,15 @@ pub fn is_fronted(cs: &[char], mark: &[char]) -> bool
 pub fn text_of(alloc: Global, cs: &[char]) -> Result<String, NoMemory>
     ensures { IfOk result (λ s. string_bytes s ≡ encode_utf8_all cs.now) }
 {
-    let mut text = String::new(alloc);
+    let mut text = String::with_capacity(alloc, cs.len())?;
     for c in cs {
         text.push(*c)?;
     }
     Ok(text)
+}
+
+pub fn vec_of(alloc: Global, cs: &[char]) -> Result<Vec<char>, NoMemory>
+    ensures { IfOk result (λ v. v.items ≡ cs.now) }
+{
+    Ok(Vec::from_slice(alloc, cs)?)
 }

@@ -1,16 +1,18 @@
 ghost use Rattle.std.specs.Prelude.{◌≡◌, ◌+◌, ◌-◌, ◌*◌, ◌^◌, ◌<◌, ◌≤◌, length, chars, drop, min, IfOk, IfErr, OnOk};
-ghost use Rattle.std.specs.Prelude.{[], ◌∷◌};
+ghost use Rattle.std.specs.Prelude.{[], ◌∷◌, false};
 ghost use Rattle.std.specs.Str.{bytes_eq};
 ghost use Rattle.em_lex.specs.Lexing.{Lexes, byte_len};
 ghost use Rattle.em_lex.specs.Answers.{Refused, most};
+ghost use Rattle.em_lex.specs.Scan.{step};
 ghost use Rattle.em_lex.specs.Walk.{token_at, behind_trivia, behind_token, piece_within, Kept, RefusedAt, LexesFrom, RefusedFrom, mark_len, RefusedText};
 
-use crate::characters::{char_at, front, is_same, text_of};
+use crate::characters::{char_at, front};
 use crate::counter::Lexings;
 use crate::error::{LexError, LexKind};
 use crate::piece::Piece;
 use crate::scan::step;
-use em_base::{Edition, Limit, List, NoMemory, Span, Text, Token, TokenKind, Tokens, rest_from};
+use crate::texts::Texts;
+use em_base::{Edition, Limit, List, NoMemory, Span, Token, TokenKind, Tokens, rest_from};
 use std::alloc::Global;
 
 /// The greatest length of a text: 4 MiB.
@@ -41,13 +43,19 @@ struct Place {
 }
 
 /// The token of a word at a place.
-#[tactic(auto, using(crate::proofs::WalkLemmas::bytes))]
-fn token_of(alloc: Global, place: Place, kind: TokenKind, word: &[char]) -> Result<Token, NoMemory>
+#[tactic(auto, using(crate::proofs::TextLemmas::encoded))]
+fn token_of(
+    alloc: Global,
+    texts: &mut Texts,
+    place: Place,
+    kind: TokenKind,
+    word: &[char],
+) -> Result<Token, NoMemory>
     requires fits { place.start + byte_len word.now < 2 ^ 32 }
     ensures { IfOk result (λ t. t ≡ token_at place.file place.edition place.start place.doc kind word.now) }
 {
-    let text = Text::from_string(text_of(alloc, word)?)?;
-    let end = place.start + byte_len(word) as u32;
+    let text = texts.text(alloc, word)?;
+    let end = place.start + text.as_bytes().len() as u32;
     Ok(Token {
         kind,
         text,
@@ -76,16 +84,24 @@ fn behind_trivia(place: Place, word: &[char], doc: bool) -> Place
     }
 }
 
-/// The place behind a token.
-#[tactic(auto, using(crate::proofs::WalkLemmas::bytes))]
-fn behind_token(place: Place, word: &[char]) -> Place
-    requires fits { place.start + byte_len word.now < 2 ^ 32 }
+fn is_dot(word: &[char]) -> bool
+    ensures { result ≡ bytes_eq word.now (46 ∷ []) }
+{
+    match word {
+        [c] => *c == '.',
+        _ => false,
+    }
+}
+
+/// The place behind a token that ends here.
+fn behind_token(place: Place, end: u32, word: &[char]) -> Place
+    requires { end ≡ place.start + byte_len word.now }
     ensures { result ≡ behind_token place (byte_len word.now) (bytes_eq word.now (46 ∷ [])) }
 {
     Place {
-        start: place.start + byte_len(word) as u32,
+        start: end,
         doc: false,
-        dot: is_same(word, &['.']),
+        dot: is_dot(word),
         ..place
     }
 }
@@ -94,6 +110,7 @@ fn behind_token(place: Place, word: &[char]) -> Place
 #[tactic(auto, using(crate::proofs::WalkLemmas::bytes))]
 fn keep(
     alloc: Global,
+    texts: &mut Texts,
     list: &mut List<Token>,
     place: Place,
     piece: Piece,
@@ -108,14 +125,53 @@ fn keep(
         Piece::Trivia { len, doc } => Ok((behind_trivia(place, front(rest, len), doc), len)),
         Piece::Token { kind, len } => {
             let word = front(rest, len);
-            list.push(token_of(alloc, place, kind, word)?)?;
-            Ok((behind_token(place, word), len))
+            let token = token_of(alloc, texts, place, kind, word)?;
+            let end = token.span.end;
+            list.push(token)?;
+            Ok((behind_token(place, end, word), len))
         }
         Piece::Fault { kind, at } => Err(LexError::At {
             offset: place.start + byte_len(front(rest, at)) as u32,
             kind,
         }),
     }
+}
+
+/// The place behind one ASCII character of whitespace.
+fn behind_blank(place: Place) -> Place
+    requires { place.start + 1 < 2 ^ 32 }
+    ensures { result ≡ behind_trivia place 1 false }
+{
+    Place {
+        start: place.start + 1,
+        dot: false,
+        ..place
+    }
+}
+
+/// Reads what stands at the front, puts its token at the end, if it is one, and gives the place behind it, and its length.
+/// Most pieces are a space or a line's end: these come first.
+#[tactic(auto, using(crate::proofs::WalkLemmas::blanks))]
+fn advance(
+    alloc: Global,
+    texts: &mut Texts,
+    list: &mut List<Token>,
+    edition: Edition,
+    place: Place,
+    rest: &[char],
+) -> Result<(Place, usize), LexError>
+    requires some { 1 ≤ length rest.now }
+    requires small { 3 + length rest.now < 2 ^ 32 }
+    requires fits { place.start + byte_len rest.now < 2 ^ 32 }
+    ensures kept { IfOk result (λ p. Kept list.old list.new place (step edition place.dot rest.now) rest.now p.0 p.1) }
+    ensures refused { IfErr result (λ e. RefusedAt place (step edition place.dot rest.now) rest.now e) }
+{
+    let c = char_at(rest, 0);
+    if c == ' ' || c == '\n' {
+        return Ok((behind_blank(place), 1));
+    }
+    let piece = step(alloc, texts, edition, place.dot, rest)?;
+    keep(alloc, texts, list, place, piece, rest)
 }
 
 /// The tokens of characters that begin at an offset of a file.
@@ -130,6 +186,7 @@ fn lex_chars(
     ensures tokens { IfOk result (λ list. LexesFrom file edition offset cs.now list) }
     ensures refused { IfErr result (λ e. RefusedFrom edition offset cs.now e) }
 {
+    let mut texts = Texts::new(alloc)?;
     let mut list = List::new(alloc);
     let mut place = Place {
         file,
@@ -141,8 +198,7 @@ fn lex_chars(
     let mut at = 0usize;
     'pieces: while at < cs.len() {
         let rest = rest_from(cs, at);
-        let piece = step(alloc, edition, place.dot, rest)?;
-        let (next, len) = keep(alloc, &mut list, place, piece, rest)?;
+        let (next, len) = advance(alloc, &mut texts, &mut list, edition, place, rest)?;
         place = next;
         at += len;
     }

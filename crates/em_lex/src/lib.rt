@@ -13,6 +13,7 @@ mod piece;
 mod scan;
 #[cfg(test)]
 mod tests;
+mod texts;
 mod trivia;
 mod unit;
 mod word;

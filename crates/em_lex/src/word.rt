@@ -1,22 +1,14 @@
 ghost use Rattle.std.specs.Prelude.{◌≡◌, ◌<◌, ◌≤◌, ◌+◌, ◌^◌, length, slice_index, drop, take, IfOk};
-ghost use Rattle.em_lex.specs.Characters.{name_of};
 ghost use Rattle.em_lex.specs.declared.piece.Piece.TheVariants.{Fault};
 ghost use Rattle.em_lex.specs.Scan as spec;
 
-use crate::characters::{char_at, front, is_same, run, starts_word, text_of};
+use crate::characters::{char_at, front, is_same, run, starts_word};
 use crate::error::LexKind;
 use crate::literal::{hash_run, literal_step, single_len};
 use crate::piece::{Form, Piece};
-use em_base::{Edition, Name, NoMemory, TokenKind, rest_from};
+use crate::texts::Texts;
+use em_base::{Edition, NoMemory, TokenKind, rest_from};
 use std::alloc::Global;
-
-/// The name of a word.
-fn name_of(alloc: Global, word: &[char]) -> Result<Name, NoMemory>
-    ensures { IfOk result (λ n. n ≡ name_of word.now) }
-{
-    let text = text_of(alloc, word)?;
-    Name::normal(alloc, text.as_str())
-}
 
 fn fault(kind: LexKind) -> Piece
     ensures { result ≡ Fault kind 0 }
@@ -25,7 +17,7 @@ fn fault(kind: LexKind) -> Piece
 }
 
 /// A word that nothing is added to.
-fn plain_word(alloc: Global, word: &[char]) -> Result<Piece, NoMemory>
+fn plain_word(alloc: Global, texts: &mut Texts, word: &[char]) -> Result<Piece, NoMemory>
     ensures { IfOk result (λ p. p ≡ spec.plain_word word.now (length word.now)) }
 {
     let len = word.len();
@@ -37,7 +29,7 @@ fn plain_word(alloc: Global, word: &[char]) -> Result<Piece, NoMemory>
     }
     Ok(Piece::Token {
         kind: TokenKind::Ident {
-            name: name_of(alloc, word)?,
+            name: texts.name(alloc, word)?,
             raw: false,
         },
         len,
@@ -45,13 +37,18 @@ fn plain_word(alloc: Global, word: &[char]) -> Result<Piece, NoMemory>
 }
 
 /// A word before a character with which it is a reserved prefix.
-fn prefixed(alloc: Global, edition: Edition, word: &[char]) -> Result<Piece, NoMemory>
+fn prefixed(
+    alloc: Global,
+    texts: &mut Texts,
+    edition: Edition,
+    word: &[char],
+) -> Result<Piece, NoMemory>
     ensures { IfOk result (λ p. p ≡ spec.prefixed edition word.now (length word.now)) }
 {
     if edition == Edition::E2021 {
         return Ok(fault(LexKind::ReservedPrefix));
     }
-    plain_word(alloc, word)
+    plain_word(alloc, texts, word)
 }
 
 /// Whether a name has no raw form.
@@ -62,7 +59,7 @@ fn not_raw(name: &str) -> bool
 }
 
 /// Behind `r#`.
-fn raw_word(alloc: Global, cs: &[char]) -> Result<Piece, NoMemory>
+fn raw_word(alloc: Global, texts: &mut Texts, cs: &[char]) -> Result<Piece, NoMemory>
     requires small { length cs.now < 2 ^ 32 }
     ensures { IfOk result (λ p. p ≡ spec.raw_word cs.now) }
 {
@@ -71,7 +68,7 @@ fn raw_word(alloc: Global, cs: &[char]) -> Result<Piece, NoMemory>
     if !starts_word(cs) || is_same(word, &['_']) {
         return Ok(fault(LexKind::BadRaw));
     }
-    let name = name_of(alloc, word)?;
+    let name = texts.name(alloc, word)?;
     if not_raw(name.as_str()) {
         return Ok(fault(LexKind::BadRaw));
     }
@@ -82,7 +79,13 @@ fn raw_word(alloc: Global, cs: &[char]) -> Result<Piece, NoMemory>
 }
 
 /// Behind `r` or `br`, at a `#`.
-fn hash_step(alloc: Global, byte: bool, at: usize, cs: &[char]) -> Result<Piece, NoMemory>
+fn hash_step(
+    alloc: Global,
+    texts: &mut Texts,
+    byte: bool,
+    at: usize,
+    cs: &[char],
+) -> Result<Piece, NoMemory>
     requires some { 1 ≤ length cs.now }
     requires small { at + length cs.now < 2 ^ 32 }
     ensures { IfOk result (λ p. p ≡ spec.hash_step byte at cs.now) }
@@ -95,12 +98,13 @@ fn hash_step(alloc: Global, byte: bool, at: usize, cs: &[char]) -> Result<Piece,
     if byte {
         return Ok(fault(LexKind::BadRaw));
     }
-    raw_word(alloc, rest_from(cs, 1))
+    raw_word(alloc, texts, rest_from(cs, 1))
 }
 
 /// A word before a `"`.
 fn word_before_quote(
     alloc: Global,
+    texts: &mut Texts,
     edition: Edition,
     word: &[char],
     cs: &[char],
@@ -117,13 +121,14 @@ fn word_before_quote(
     } else if is_same(word, &['b', 'r']) {
         literal_step(alloc, true, Form::Raw(0), 3, rest)
     } else {
-        prefixed(alloc, edition, word)
+        prefixed(alloc, texts, edition, word)
     }
 }
 
 /// A word before a `#`.
 fn word_before_hash(
     alloc: Global,
+    texts: &mut Texts,
     edition: Edition,
     word: &[char],
     cs: &[char],
@@ -133,17 +138,22 @@ fn word_before_hash(
     ensures { IfOk result (λ p. p ≡ spec.word_before_hash edition word.now (length word.now) cs.now) }
 {
     if is_same(word, &['r']) {
-        hash_step(alloc, false, 1, cs)
+        hash_step(alloc, texts, false, 1, cs)
     } else if is_same(word, &['b', 'r']) {
-        hash_step(alloc, true, 2, cs)
+        hash_step(alloc, texts, true, 2, cs)
     } else {
-        prefixed(alloc, edition, word)
+        prefixed(alloc, texts, edition, word)
     }
 }
 
 /// At a word.
 #[tactic(auto, unfolding(crate::specs::Scan::word_step))]
-pub fn word_step(alloc: Global, edition: Edition, cs: &[char]) -> Result<Piece, NoMemory>
+pub fn word_step(
+    alloc: Global,
+    texts: &mut Texts,
+    edition: Edition,
+    cs: &[char],
+) -> Result<Piece, NoMemory>
     requires small { 3 + length cs.now < 2 ^ 32 }
     ensures { IfOk result (λ p. p ≡ spec.word_step edition cs.now) }
 {
@@ -151,19 +161,19 @@ pub fn word_step(alloc: Global, edition: Edition, cs: &[char]) -> Result<Piece, 
     let word = front(cs, len);
     let rest = rest_from(cs, len);
     match char_at(cs, len) {
-        '"' => word_before_quote(alloc, edition, word, rest),
-        '#' => word_before_hash(alloc, edition, word, rest),
+        '"' => word_before_quote(alloc, texts, edition, word, rest),
+        '#' => word_before_hash(alloc, texts, edition, word, rest),
         '\'' if is_same(word, &['b']) => {
             literal_step(alloc, true, Form::Single, 2, rest_from(rest, 1))
         }
-        '\'' => prefixed(alloc, edition, word),
-        _ => plain_word(alloc, word),
+        '\'' => prefixed(alloc, texts, edition, word),
+        _ => plain_word(alloc, texts, word),
     }
 }
 
 /// At a `'`, a lifetime.
 #[tactic(auto, unfolding(crate::specs::Scan::lifetime_step))]
-fn lifetime_step(alloc: Global, cs: &[char]) -> Result<Piece, NoMemory>
+fn lifetime_step(alloc: Global, texts: &mut Texts, cs: &[char]) -> Result<Piece, NoMemory>
     requires some { 1 ≤ length cs.now }
     requires small { length cs.now < 2 ^ 32 }
     ensures { IfOk result (λ p. p ≡ spec.lifetime_step cs.now) }
@@ -176,7 +186,7 @@ fn lifetime_step(alloc: Global, cs: &[char]) -> Result<Piece, NoMemory>
     }
     Ok(Piece::Token {
         kind: TokenKind::Lifetime {
-            name: name_of(alloc, front(rest, len))?,
+            name: texts.name(alloc, front(rest, len))?,
         },
         len: 1 + len,
     })
@@ -184,14 +194,14 @@ fn lifetime_step(alloc: Global, cs: &[char]) -> Result<Piece, NoMemory>
 
 /// At a `'`.
 #[tactic(auto, unfolding(crate::specs::Scan::quote_step))]
-pub fn quote_step(alloc: Global, cs: &[char]) -> Result<Piece, NoMemory>
+pub fn quote_step(alloc: Global, texts: &mut Texts, cs: &[char]) -> Result<Piece, NoMemory>
     requires some { 1 ≤ length cs.now }
     requires small { 1 + length cs.now < 2 ^ 32 }
     ensures { IfOk result (λ p. p ≡ spec.quote_step cs.now) }
 {
     let rest = rest_from(cs, 1);
     if starts_word(rest) && single_len(false, rest).is_none() {
-        lifetime_step(alloc, cs)
+        lifetime_step(alloc, texts, cs)
     } else {
         literal_step(alloc, false, Form::Single, 1, rest)
     }

@@ -5,7 +5,7 @@ ghost use Rattle.em_grammar.specs.Sets.{next, tokens, dyn_sort};
 ghost use Rattle.em_grammar.specs.PathReader.{segments_first, path_first};
 ghost use Rattle.em_grammar.specs.TypeReader.{node_first, type_first, dyn_follow};
 
-use em_grammar::{Written, is_bound_start, is_dyn, is_root, is_sign};
+use em_grammar::{Written, is_bound_start, is_dyn, is_path_start, is_segments_start, is_sign};
 use em_read::Cursor;
 use em_tree::{FragmentKind, Piece};
 
@@ -14,9 +14,7 @@ pub fn starts_segments(input: &Cursor<'_>) -> bool
     ensures { result ≡ next segments_first input.now.rest.now }
 {
     match input.rest {
-        [Piece::Token(token), ..] => {
-            is_sign(Written::PathSep, token) || is_sign(Written::Dollar, token) || is_root(token)
-        }
+        [Piece::Token(token), ..] => is_segments_start(token),
         _ => false,
     }
 }
@@ -26,12 +24,7 @@ pub fn starts_path(input: &Cursor<'_>) -> bool
     ensures { result ≡ next path_first input.now.rest.now }
 {
     match input.rest {
-        [Piece::Token(token), ..] => {
-            is_sign(Written::PathSep, token)
-                || is_sign(Written::Dollar, token)
-                || is_root(token)
-                || is_sign(Written::Lt, token)
-        }
+        [Piece::Token(token), ..] => is_path_start(token),
         [Piece::Group(group), ..] => group.kind == FragmentKind::Path,
         [] => false,
     }

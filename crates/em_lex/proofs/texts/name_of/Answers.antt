@@ -1,7 +1,7 @@
 use Rattle.std.proofs.Common.{◌≡◌, sym, ◌∙◌}
 use Rattle.std.specs.Prelude.{chars}
 use Rattle.std.proofs.lemmas.Str.{chars_from_encodes}
-use Rattle.em_lex.proofs.word.name_of.Goals as goal
+use Rattle.em_lex.proofs.texts.name_of.Goals as goal
 
 pub returns : goal.returns
 returns c =
